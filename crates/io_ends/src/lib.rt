@@ -1,0 +1,26 @@
+//! Where bytes come from and where they go: sources and sinks that may fail at any call.
+//! A contract sees of each end the bytes that it has left or has taken, where it tells them, and a count
+//! of its faults that never falls. So a failure is always somebody's: an answer that speaks of one
+//! comes only where the count of that end rose.
+#![tactic(auto)]
+
+mod mem_sink;
+mod mem_source;
+mod read_all;
+mod sink;
+mod source;
+mod std_sink;
+mod std_source;
+mod write_all;
+
+pub use mem_sink::MemSink;
+pub use mem_source::MemSource;
+pub use read_all::{ReadAll, read_all};
+pub use sink::Sink;
+pub use source::{Failed, Source};
+pub use std_sink::StdSink;
+pub use std_source::StdSource;
+pub use write_all::{WriteFault, write_all};
+
+#[cfg(test)]
+mod tests;

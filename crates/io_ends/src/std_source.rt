@@ -1,0 +1,1 @@
+//! A reader of std as a source.
