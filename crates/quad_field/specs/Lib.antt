@@ -1,0 +1,4 @@
+pub mod Ring
+pub mod Quads
+pub mod FieldNumber
+pub mod Width

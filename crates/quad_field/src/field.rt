@@ -1,0 +1,100 @@
+//! The field, and its arithmetic.
+
+ghost use Rattle.std.specs.Prelude.{◌≡◌, ◌↔◌, IsOk, IfOk};
+ghost use Rattle.std.specs.Option.{SomeIff};
+ghost use Rattle.quad_field.specs.FieldNumber.{IsFieldNumber};
+ghost use Rattle.quad_field.specs.Quads.{quad_ops, IsPositive, IsZero};
+ghost use Rattle.quad_field.specs.Width.{number, sum, difference, product, negation, StepsFit};
+
+use super::{Quad, Sign, TooWide};
+use std::marker::Model;
+
+/// The field of √D, for a square-free D from 2 to 1000. Contracts see it as D.
+#[derive(Clone, Copy)]
+pub struct Field {
+    d: u32,
+}
+
+impl Model for Field {
+    ghost use Rattle.std.specs.Prelude.{ℕ};
+    ghost use Rattle.quad_field.specs.FieldNumber.{IsFieldNumber};
+
+    ghost Value = { ℕ };
+
+    ghost view = { λ f. f.d };
+
+    ghost invariant = { λ f. IsFieldNumber f.d };
+
+    ghost inverse = { λ d. record { d = d } };
+}
+
+impl Field {
+    /// The field of √d: none where d is below 2, above 1000 or divisible by the square of a whole number above 1.
+    pub fn make(d: u32) -> Option<Field>
+        ensures { SomeIff result (IsFieldNumber d) d }
+    {
+        None
+    }
+
+    /// Its D.
+    pub fn number(&self) -> u32
+        ensures number { result ≡ self.now }
+        ensures valid { IsFieldNumber self.now }
+    {
+        self.d
+    }
+
+    /// x + y, too wide exactly where a part of it lies outside i128.
+    pub fn add(&self, x: Quad, y: Quad) -> Result<Quad, TooWide>
+        ensures exact { IfOk result (λ z. z ≡ (quad_ops self.now).add x y) }
+        ensures fits { IsOk result ↔ StepsFit self.now (sum (number x) (number y)) }
+    {
+        let a = x.a.checked_add(y.a).ok_or(TooWide)?;
+        let b = x.b.checked_add(y.b).ok_or(TooWide)?;
+        Ok(Quad { a, b })
+    }
+
+    /// x - y, too wide exactly where a part of it lies outside i128.
+    pub fn sub(&self, x: Quad, y: Quad) -> Result<Quad, TooWide>
+        ensures exact { IfOk result (λ z. z ≡ (quad_ops self.now).sub x y) }
+        ensures fits { IsOk result ↔ StepsFit self.now (difference (number x) (number y)) }
+    {
+        let a = x.a.checked_sub(y.a).ok_or(TooWide)?;
+        let b = x.b.checked_sub(y.b).ok_or(TooWide)?;
+        Ok(Quad { a, b })
+    }
+
+    /// x·y, too wide exactly where one of its seven steps lies outside i128.
+    pub fn mul(&self, x: Quad, y: Quad) -> Result<Quad, TooWide>
+        ensures exact { IfOk result (λ z. z ≡ (quad_ops self.now).mul x y) }
+        ensures fits { IsOk result ↔ StepsFit self.now (product (number x) (number y)) }
+    {
+        let ac = x.a.checked_mul(y.a).ok_or(TooWide)?;
+        let bd = x.b.checked_mul(y.b).ok_or(TooWide)?;
+        let scaled = i128::from(self.d).checked_mul(bd).ok_or(TooWide)?;
+        let a = ac.checked_add(scaled).ok_or(TooWide)?;
+        let ad = x.a.checked_mul(y.b).ok_or(TooWide)?;
+        let bc = x.b.checked_mul(y.a).ok_or(TooWide)?;
+        let b = ad.checked_add(bc).ok_or(TooWide)?;
+        Ok(Quad { a, b })
+    }
+
+    /// -x, too wide exactly where a part of x is the least i128.
+    pub fn neg(&self, x: Quad) -> Result<Quad, TooWide>
+        ensures exact { IfOk result (λ z. z ≡ (quad_ops self.now).neg x) }
+        ensures fits { IsOk result ↔ StepsFit self.now (negation (number x)) }
+    {
+        let a = x.a.checked_neg().ok_or(TooWide)?;
+        let b = x.b.checked_neg().ok_or(TooWide)?;
+        Ok(Quad { a, b })
+    }
+
+    /// The sign of the real number a + b·√D, for every x.
+    pub fn sign(&self, x: Quad) -> Sign
+        ensures plus { (result ≡ Sign.Plus) ↔ IsPositive self.now x }
+        ensures minus { (result ≡ Sign.Minus) ↔ IsPositive self.now ((quad_ops self.now).neg x) }
+        ensures zero { (result ≡ Sign.Zero) ↔ IsZero x }
+    {
+        Sign::Zero
+    }
+}

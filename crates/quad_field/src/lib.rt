@@ -1,0 +1,12 @@
+//! Numbers of a real quadratic field: K-integers a + b·√D with parts in i128.
+//! Every operation is exact, or says that a step of it lies outside i128; every sign is exact.
+#![tactic(auto)]
+
+mod field;
+mod formula;
+mod quad;
+
+pub use field::Field;
+pub use formula::Formula;
+pub use quad::{Quad, Sign, TooWide};
+
