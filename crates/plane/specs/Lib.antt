@@ -1,0 +1,5 @@
+pub use Rattle.quad_field.specs.Ring
+pub use Rattle.quad_field.specs.Quads
+pub use Rattle.quad_field.specs.Width
+pub use Rattle.quad_field.specs.FieldNumber
+pub mod Vectors

@@ -1,0 +1,7 @@
+//! Vectors of the plane over the K-integers.
+//! Every operation is exact, or says that a step of it lies outside i128.
+#![tactic(auto)]
+
+mod vec2;
+
+pub use vec2::{Vec2, det, opposite, sum};

@@ -1,0 +1,92 @@
+//! Triangulations.
+
+ghost use Rattle.std.specs.Prelude.{◌≡◌, ◌↔◌, ℕ, ◌+◌, ◌*◌, ◌<◌, ◌≤◌, length, slice_get, Some, IsTrue, IsErrOf, IfOk, OnOk, IfErr};
+ghost use Rattle.tri_core.specs.HalfEdges.{next_of, twin_at};
+ghost use Rattle.tri_core.specs.Triangulation.{IsTriangulation};
+ghost use Rattle.tri_core.specs.Refusals.{IsCause};
+
+use super::Half;
+use quad_field::{Field, Formula};
+use std::alloc::Global;
+use std::marker::Model;
+
+/// Why half-edges aren't a triangulation: the first condition that fails, at the least triangle or half-edge.
+#[derive(Clone, Copy, Debug, PartialEq, Eq)]
+pub enum BadTri {
+    /// The number of half-edges isn't a multiple of 3 from 6 to 768.
+    Count,
+    /// A sum of a triangle's vectors, or the determinant of its first two, has a step outside i128.
+    Wide(Formula),
+    /// The vectors of this triangle don't sum to zero.
+    Sum(u32),
+    /// The first two vectors of this triangle have no positive determinant.
+    Turn(u32),
+    /// The twin of this half-edge isn't a half-edge whose twin it is and whose vector is opposite.
+    Twin(u32),
+    /// This triangle isn't joined to triangle 0.
+    Apart(u32),
+    /// Memory ran out.
+    Memory,
+}
+
+/// A checked triangulation over one field. Half-edge `3t + k` is side k of triangle t.
+/// Contracts see the number of its field and the list of its half-edges.
+#[derive(Drop)]
+pub struct Tri {
+    field: u32,
+    halves: Vec<Half>,
+}
+
+impl Model for Tri {
+    ghost use Rattle.tri_core.specs.Triangulation.{Triangulation, IsTriangulation};
+
+    ghost Value = { Triangulation };
+
+    ghost view = { λ t. record { field = t.field; halves = t.halves.items } };
+
+    ghost invariant = { λ t. IsTriangulation t.field t.halves.items };
+}
+
+impl Tri {
+    /// The triangulation of these half-edges over this field, refused exactly where they are none, memory and width aside.
+    /// `BadTri::Wide` may stand in place of any other answer where a sum or a determinant of a triangle is wide.
+    pub fn make(alloc: Global, f: &Field, halves: Vec<Half>) -> Result<Tri, BadTri>
+        ensures made { IfOk result (λ tri. tri ≡ record { field = f.now; halves = halves.items }) }
+        ensures valid { OnOk result (IsTriangulation f.now halves.items) }
+        ensures cause { IfErr result (IsCause f.now halves.items) }
+        ensures count { IsErrOf result BadTri.Count ↔ IsCause f.now halves.items BadTri.Count }
+    {
+        Err(BadTri::Count)
+    }
+
+    /// How many triangles it has.
+    pub fn triangles(&self) -> u32
+        ensures count { 3 * result ≡ length self.now.halves }
+        ensures valid { IsTriangulation self.now.field self.now.halves }
+    {
+        0
+    }
+
+    /// The half-edge of number h.
+    pub fn half(&self, h: u32) -> &Half
+        requires { h < length self.now.halves }
+        ensures { slice_get self.now.halves h ≡ Some result.now }
+    {
+        &self.halves[h as usize]
+    }
+
+    /// Whether h is the name of an edge: a half-edge that is less than its twin.
+    pub fn is_edge(&self, h: u32) -> bool
+        ensures { IsTrue result ↔ ((h < length self.now.halves) × (h < twin_at self.now.halves h)) }
+    {
+        false
+    }
+
+    /// The half-edge after h in its triangle.
+    pub fn next(h: u32) -> u32
+        requires { h < 768 }
+        ensures { result ≡ next_of h }
+    {
+        h
+    }
+}
