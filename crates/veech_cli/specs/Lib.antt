@@ -1,0 +1,14 @@
+pub use Rattle.quad_field.specs.Ring
+pub use Rattle.quad_field.specs.Quads
+pub use Rattle.quad_field.specs.Width
+pub use Rattle.quad_field.specs.FieldNumber
+pub use Rattle.plane.specs.Vectors
+pub use Rattle.plane.specs.Spelling
+pub use Rattle.tri_core.specs.HalfEdges
+pub use Rattle.tri_core.specs.Triangulation
+pub use Rattle.io_ends.specs.Ends
+pub mod Commands
+pub mod TriangleFiles
+pub mod Statuses
+pub mod Texts
+pub mod Runs

@@ -1,0 +1,110 @@
+//! The top call.
+
+ghost use Rattle.std.specs.Prelude.{◌≡◌, ℕ, ◌≤◌, ◌⊎◌, List, IfSome, IfOk, IfErr, IsErr};
+ghost use Rattle.std.specs.declared.option.Option.{Option};
+ghost use Rattle.io_ends.specs.Ends.{Rose, given};
+ghost use Rattle.tri_core.specs.declared.half.Half.{Half};
+ghost use Rattle.veech_cli.specs.Commands.{Names, AreTaken};
+ghost use Rattle.veech_cli.specs.Statuses.{status_of};
+ghost use Rattle.veech_cli.specs.TriangleFiles.{FileOfTriangles, IsBuilt, IsNotBuilt};
+ghost use Rattle.veech_cli.specs.Texts.{fault_line};
+ghost use Rattle.veech_cli.specs.Runs.{Says, Settles, Delivers, IsInput, SpeaksOfInput};
+ghost use Rattle.veech_cli.specs.declared.status.Status.{Status as Ending};
+
+use super::check::check;
+use super::command::{Command, command_of};
+use super::refusal::Refusal;
+use super::{Status, WordList};
+use io_ends::{Sink, Source, WriteFault, read_all, write_all};
+use std::alloc::Global;
+
+/// The most bytes that an input may have.
+const INPUT_LIMIT: usize = 1_048_576;
+
+/// Runs the command that the words name on the bytes of the source, and writes its text to the sink.
+///
+/// The words are checked before anything is read. The source is read to its end, or to one byte past the limit,
+/// before the input is looked at. All output is composed before the first byte is written, and a refusal writes
+/// its one line in place of it.
+pub fn run_plain<S: Source, K: Sink>(
+    alloc: Global,
+    words: &WordList,
+    source: &mut S,
+    sink: &mut K,
+) -> Status
+    // What the words and the input say is what is answered and written, whole, or up to where the sink failed.
+    ensures outcome { (input : List ℕ) × (status : Ending) × (text : List ℕ)
+        × IsInput (S.left source.old) input
+        × Settles words.now input status text
+        × Delivers status text result (K.taken sink.old) (K.taken sink.new) }
+
+    // Words outside the grammar are refused as such, and then nothing is read.
+    ensures words { AreTaken words.now → ¬ (result ≡ Status.Words) }
+    ensures refused { ¬ (AreTaken words.now) → (result ≡ Status.Words) ⊎ (result ≡ Status.WriteFault) }
+    ensures unread { ¬ (AreTaken words.now) → source.new ≡ source.old }
+
+    // What is read: all of the input, or one byte past the limit, before anything is said of it.
+    ensures whole { SpeaksOfInput result → S.left source.new ≡ given 1048577 (S.left source.old) }
+    ensures reads { (n : ℕ) × (n ≤ 1048577) × (S.left source.new ≡ given n (S.left source.old)) }
+
+    // An end is blamed only where its count of faults rose.
+    ensures read_fault { result ≡ Status.ReadFault → Rose (S.faults source.old) (S.faults source.new) }
+    ensures write_fault { result ≡ Status.WriteFault → Rose (K.faults sink.old) (K.faults sink.new) }
+    ensures source_never_falls { S.faults source.old ≤ S.faults source.new }
+    ensures sink_never_falls { K.faults sink.old ≤ K.faults sink.new }
+
+    // `check` answers: where no end failed and the source tells its bytes, Done exactly where the input is built,
+    // and the refusal of the file exactly where it isn't, but for want of memory.
+    ensures built { Names words.now Command.Check
+        → ¬ (Rose (S.faults source.old) (S.faults source.new))
+        → ¬ (Rose (K.faults sink.old) (K.faults sink.new))
+        → IfSome (S.left source.old) (λ input. (file : FileOfTriangles) (halves : List Half)
+            → IsBuilt input file halves → (result ≡ Status.Done) ⊎ (result ≡ Status.Memory)) }
+    ensures not_built { Names words.now Command.Check
+        → ¬ (Rose (S.faults source.old) (S.faults source.new))
+        → ¬ (Rose (K.faults sink.old) (K.faults sink.new))
+        → IfSome (S.left source.old) (λ input. IsNotBuilt input
+            → (result ≡ Status.File 30 0) ⊎ (result ≡ Status.Memory)) }
+{
+    match command_of(words) {
+        Some(command) => answer(alloc, command, source, sink),
+        None => deliver(sink, Status::Words, b"fault words\n"),
+    }
+}
+
+/// Reads the input, and hands out what the command says to it.
+fn answer<S: Source, K: Sink>(
+    alloc: Global,
+    command: Command,
+    source: &mut S,
+    sink: &mut K,
+) -> Status {
+    match settle(alloc, command, source) {
+        Ok(text) => deliver(sink, Status::Done, text.as_slice()),
+        Err(refusal) => deliver(sink, refusal.status(), refusal.line()),
+    }
+}
+
+/// What the command writes for the input of the source, or why there is none.
+fn settle<S: Source>(
+    alloc: Global,
+    command: Command,
+    source: &mut S,
+) -> Result<Vec<u8>, Refusal> {
+    let input = read_all(alloc, source, INPUT_LIMIT)?;
+    match command {
+        Command::Check => Ok(check(alloc, input.as_slice())?),
+    }
+}
+
+/// Writes a text, and answers its status, or that the sink failed.
+fn deliver<K: Sink>(sink: &mut K, status: Status, text: &[u8]) -> Status
+    ensures delivered { Delivers status text.now result (K.taken sink.old) (K.taken sink.new) }
+    ensures fault { result ≡ Status.WriteFault → (status ≡ Status.WriteFault) ⊎ Rose (K.faults sink.old) (K.faults sink.new) }
+    ensures never_falls { K.faults sink.old ≤ K.faults sink.new }
+{
+    match write_all(sink, text) {
+        Ok(()) => status,
+        Err(WriteFault) => Status::WriteFault,
+    }
+}

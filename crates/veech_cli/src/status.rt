@@ -1,0 +1,35 @@
+//! How a run ends.
+
+ghost use Rattle.std.specs.Prelude.{◌≡◌};
+ghost use Rattle.veech_cli.specs.Statuses.{number_of};
+
+/// How a run ends. Each status but `Done` and `WriteFault` has written its one line in place of the output.
+#[derive(Clone, Copy, Debug, PartialEq, Eq)]
+pub enum Status {
+    /// The output was written whole.
+    Done,
+    /// The words aren't in the grammar.
+    Words,
+    /// The input is no file that is built, by this cause at this line.
+    File { cause: u8, line: u64 },
+    /// The source failed.
+    ReadFault,
+    /// The sink failed; a prefix of what was to be written stands there.
+    WriteFault,
+    /// Memory ran out.
+    Memory,
+}
+
+/// The number with which the program ends.
+pub fn status_number(status: &Status) -> u8
+    ensures { result ≡ number_of status.now }
+{
+    match status {
+        Status::Done => 0,
+        Status::Words => 2,
+        Status::File { .. } => 3,
+        Status::ReadFault => 8,
+        Status::WriteFault => 9,
+        Status::Memory => 10,
+    }
+}
