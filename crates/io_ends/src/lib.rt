@@ -4,23 +4,21 @@
 //! comes only where the count of that end rose.
 #![tactic(auto)]
 
+mod calls;
 mod mem_sink;
 mod mem_source;
-mod read_all;
+mod reading;
 mod sink;
 mod source;
 mod std_sink;
 mod std_source;
-mod write_all;
+mod writing;
 
 pub use mem_sink::MemSink;
 pub use mem_source::MemSource;
-pub use read_all::{ReadAll, read_all};
+pub use reading::{ReadAll, read_all};
 pub use sink::Sink;
 pub use source::{Failed, Source};
 pub use std_sink::StdSink;
 pub use std_source::StdSource;
-pub use write_all::{WriteFault, write_all};
-
-#[cfg(test)]
-mod tests;
+pub use writing::{WriteFault, write_all};

@@ -1,8 +1,9 @@
 //! A source in memory, whose calls fail as a list says.
 
-ghost use Rattle.std.specs.Prelude.{◌≡◌, ℕ, ◌<◌, ◌≤◌, ◌↔◌, min, List, length, take, drop, ◌++◌, Contains, IsErr, IfOk, OnErr};
-ghost use Rattle.io_ends.specs.Ends.{count_after};
+ghost use Rattle.std.specs.Prelude.{◌≡◌, ◌<◌, ◌≤◌, ◌↔◌, min, [], length, take, drop, ◌++◌, Some, IsErr, IfOk, OnErr};
+ghost use Rattle.io_ends.specs.Memory.{SourceFails, moved_count, source_moved, source_failed};
 
+use super::calls::is_failing;
 use super::{Failed, Source};
 use std::marker::Model;
 
@@ -44,4 +45,43 @@ impl MemSource {
             faults: 0,
         }
     }
+}
+
+impl Source for MemSource {
+    ghost left = { λ s. Some s.bytes };
+
+    ghost faults = { λ s. s.faults };
+
+    /// Fails exactly at the calls of the list; else moves as many bytes as it may, and leaves the rest of `buf`.
+    fn read(&mut self, buf: &mut [u8]) -> Result<usize, Failed>
+        requires { 0 < length buf.old }
+        ensures fails { IsErr result ↔ SourceFails self.old }
+        ensures count { IfOk result (λ n. n ≡ moved_count self.old (length buf.old)) }
+        ensures after { IfOk result (λ n. self.new ≡ source_moved self.old n) }
+        ensures front { IfOk result (λ n. buf.new ≡ take n self.old.bytes ++ drop n buf.old) }
+        ensures end { IfOk result (λ n. n ≡ 0 → self.old.bytes ≡ []) }
+        ensures failed { OnErr result (self.new ≡ source_failed self.old) }
+        ensures untouched { OnErr result (buf.new ≡ buf.old) }
+        ensures never_falls { self.old.faults ≤ self.new.faults }
+    {
+        let fails = is_failing(&self.fails, self.call);
+        self.call = self.call.saturating_add(1);
+        if fails {
+            self.faults = self.faults.saturating_add(1);
+            return Err(Failed);
+        }
+        let n = copy_front(&self.bytes[self.at..], self.most, buf);
+        self.at += n;
+        Ok(n)
+    }
+}
+
+/// Copies the first bytes into the front of `buf`, at most `most`, and answers how many.
+fn copy_front(bytes: &[u8], most: usize, buf: &mut [u8]) -> usize
+    ensures count { result ≡ min (min most (length buf.old)) (length bytes.now) }
+    ensures front { buf.new ≡ take result bytes.now ++ drop result buf.old }
+{
+    let n = most.min(buf.len()).min(bytes.len());
+    buf[..n].copy_from_slice(&bytes[..n]);
+    n
 }
