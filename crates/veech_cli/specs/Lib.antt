@@ -9,6 +9,7 @@ pub use Rattle.tri_core.specs.Triangulation
 pub use Rattle.io_ends.specs.Ends
 pub mod Commands
 pub mod TriangleFiles
+pub mod Contents
 pub mod Statuses
 pub mod Texts
 pub mod Runs

@@ -67,18 +67,23 @@ pub record AreHalfEdges (file : FileOfTriangles) (halves : List Half) : Type 0 w
   pub vectors : map (λ half. half.vec) halves ≡ sides file.triangles
   pub twins : AllByRecursion (AreTwins halves) file.glues
 
--- every side is named exactly once by the glue lines, and nothing else is
-pub record IsGlued (file : FileOfTriangles) : Type 0 where
+-- the numbers of a file are within the limits of this reading, and its glue lines name sides that are there
+pub record IsReadable (file : FileOfTriangles) : Type 0 where
+  pub field : file.field ≤ 1000
+  pub small : AllByRecursion HasSmallNumbers file.triangles
   pub there : AllByRecursion (NamesSides (length file.triangles)) file.glues
-  pub once : (h : ℕ) → h < 3 * length file.triangles → count_by (λ side. side == h) (named file.glues) ≡ 1
+
+-- every side is named exactly once by the glue lines
+abbrev pub IsNamedOnce : FileOfTriangles → Type 0
+IsNamedOnce file = (h : ℕ) → h < 3 * length file.triangles → count_by (λ side. side == h) (named file.glues) ≡ 1
 
 -- the input is the text of a file that is built to the triangulation of these half-edges
 pub record IsBuilt (input : List ℕ) (file : FileOfTriangles) (halves : List Half) : Type 0 where
   pub short : length input ≤ 1048576
   pub spelled : input ≡ file_text file
+  pub readable : IsReadable file
   pub field : IsFieldNumber file.field
-  pub small : AllByRecursion HasSmallNumbers file.triangles
-  pub glued : IsGlued file
+  pub once : IsNamedOnce file
   pub half_edges : AreHalfEdges file halves
   pub valid : IsTriangulation file.field halves
 

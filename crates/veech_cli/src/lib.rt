@@ -5,6 +5,7 @@ mod check;
 mod command;
 mod halves;
 mod reader;
+mod refusal;
 mod run;
 mod status;
 mod triangle_file;
@@ -13,6 +14,3 @@ mod words;
 pub use run::run_plain;
 pub use status::{Status, status_number};
 pub use words::WordList;
-
-#[cfg(test)]
-mod tests;
