@@ -32,7 +32,8 @@ fn is_below_root(d: u32, p: u128, q: u128) -> bool
     if p < SMALL && q < SMALL {
         return p * p < u128::from(d) * (q * q);
     }
-    is_below_quotient(d, d.isqrt(), p, q, 0, 1, d)
+    let root = d.isqrt();
+    is_below_quotient(d, root, p, q, 0, 1, d)
 }
 
 /// Whether p / q is below (s + √d) / t, a complete quotient of √d, where k is the whole part of √d.
