@@ -12,3 +12,6 @@ mod turns;
 
 pub use half::Half;
 pub use tri::{BadTri, Tri};
+
+#[cfg(test)]
+mod tests;
