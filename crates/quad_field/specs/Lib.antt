@@ -2,3 +2,5 @@ pub mod Ring
 pub mod Quads
 pub mod FieldNumber
 pub mod Width
+pub mod Fraction
+pub mod Checked

@@ -1,5 +1,5 @@
 -- Width: a formula is a tree, and it is wide where one of the steps of its evaluation lies outside i128.
-use Rattle.std.specs.Prelude.{ℕ, ℤ, pos, neg_ℤ, ◌+ℤ◌, ◌*ℤ◌, List, [], ◌∷◌, ⊤, FitsSigned}
+use Rattle.std.specs.Prelude.{ℕ, ℤ, pos, ◌+ℤ◌, ◌*ℤ◌, List, [], ◌∷◌, ⊤, FitsSigned}
 use Rattle.std.specs.Int.{w128}
 use Rattle.quad_field.specs.declared.quad.Quad.{Quad}
 use Rattle.quad_field.specs.Ring.{Ops}

@@ -6,6 +6,9 @@ ghost use Rattle.quad_field.specs.FieldNumber.{IsFieldNumber};
 ghost use Rattle.quad_field.specs.Quads.{quad_ops, IsPositive, IsZero};
 ghost use Rattle.quad_field.specs.Width.{number, sum, difference, product, negation, StepsFit};
 
+use super::comparison::is_positive;
+use super::product::{root_part, whole_part};
+use super::radicand::is_square_free;
 use super::{Quad, Sign, TooWide};
 use std::marker::Model;
 
@@ -33,7 +36,11 @@ impl Field {
     pub fn make(d: u32) -> Option<Field>
         ensures { SomeIff result (IsFieldNumber d) d }
     {
-        None
+        if 2 <= d && d <= 1000 && is_square_free(d) {
+            Some(Field { d })
+        } else {
+            None
+        }
     }
 
     /// Its D.
@@ -69,13 +76,8 @@ impl Field {
         ensures exact { IfOk result (λ z. z ≡ (quad_ops self.now).mul x y) }
         ensures fits { IsOk result ↔ StepsFit self.now (product (number x) (number y)) }
     {
-        let ac = x.a.checked_mul(y.a).ok_or(TooWide)?;
-        let bd = x.b.checked_mul(y.b).ok_or(TooWide)?;
-        let scaled = i128::from(self.d).checked_mul(bd).ok_or(TooWide)?;
-        let a = ac.checked_add(scaled).ok_or(TooWide)?;
-        let ad = x.a.checked_mul(y.b).ok_or(TooWide)?;
-        let bc = x.b.checked_mul(y.a).ok_or(TooWide)?;
-        let b = ad.checked_add(bc).ok_or(TooWide)?;
+        let a = whole_part(self.d, x, y)?;
+        let b = root_part(x, y)?;
         Ok(Quad { a, b })
     }
 
@@ -95,6 +97,12 @@ impl Field {
         ensures minus { (result ≡ Sign.Minus) ↔ IsPositive self.now ((quad_ops self.now).neg x) }
         ensures zero { (result ≡ Sign.Zero) ↔ IsZero x }
     {
-        Sign::Zero
+        if x.a == 0 && x.b == 0 {
+            Sign::Zero
+        } else if is_positive(self.d, x.a, x.b) {
+            Sign::Plus
+        } else {
+            Sign::Minus
+        }
     }
 }

@@ -2,11 +2,13 @@
 //! Every operation is exact, or says that a step of it lies outside i128; every sign is exact.
 #![tactic(auto)]
 
+mod comparison;
 mod field;
 mod formula;
+mod product;
 mod quad;
+mod radicand;
 
 pub use field::Field;
 pub use formula::Formula;
 pub use quad::{Quad, Sign, TooWide};
-

@@ -1,0 +1,6 @@
+pub mod Root
+pub mod Squares
+pub mod Quotients
+pub mod Turns
+pub mod Signs
+pub mod Checked
