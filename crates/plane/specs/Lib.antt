@@ -4,3 +4,4 @@ pub use Rattle.quad_field.specs.Width
 pub use Rattle.quad_field.specs.FieldNumber
 pub mod Vectors
 pub mod Spelling
+pub mod Reading

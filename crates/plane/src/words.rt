@@ -1,12 +1,14 @@
 //! Numbers and vectors as words of a text, read and written in their one spelling.
 
-ghost use Rattle.std.specs.Prelude.{◌≡◌, ◌≢◌, ◌↔◌, ℕ, ◌<◌, ◌^◌, ◌++◌, OnOk, OnErr};
+ghost use Rattle.std.specs.Prelude.{◌≡◌, ◌≢◌, ◌↔◌, ℕ, ◌<◌, ◌+◌, ◌*◌, ◌^◌, ◌++◌, None, SomeIff, MatchOption, IsTrue, OnOk, OnErr, length, slice_index};
 ghost use Rattle.quad_field.specs.Width.{PartsFit};
 ghost use Rattle.quad_field.specs.declared.quad.Quad.{Quad as QuadValue};
 ghost use Rattle.plane.specs.declared.vec2.Vec2.{Vec2 as VectorValue};
-ghost use Rattle.plane.specs.Spelling.{natural_text, quad_text, vector_text};
+ghost use Rattle.plane.specs.Spelling.{natural_text, whole_text, root_text, quad_text, vector_text};
+ghost use Rattle.plane.specs.Reading.{IsNaturalRead, IsWholeRead, IsQuadRead, IsVectorRead, IsNonnegative, IsPositive, IsNegative, EndsAtSign, EndsAtComma};
 
 use super::Vec2;
+use itoa::Buffer;
 use quad_field::Quad;
 use std::alloc::{AllocError, Global};
 
@@ -43,13 +45,127 @@ pub enum VectorWord {
     Not,
 }
 
+/// What a part of a K-integer's word is.
+#[derive(Clone, Copy, Debug, PartialEq, Eq)]
+enum WholeWord {
+    /// This whole number.
+    Value(i128),
+    /// A whole number outside i128.
+    Large,
+    /// No whole number in its spelling.
+    Not,
+}
+
+/// The number with one digit more, or None from 2^128 on.
+fn with_digit(value: Option<u128>, digit: u8) -> Option<u128>
+    ensures { MatchOption value (result ≡ None) (λ n. SomeIff result (n * 10 + digit < 2 ^ 128) (n * 10 + digit)) }
+{
+    value?.checked_mul(10)?.checked_add(u128::from(digit))
+}
+
 /// Reads a natural number, all of the word.
 pub fn read_natural(word: &[u8]) -> NaturalWord
     ensures value { (n : ℕ) → (result ≡ NaturalWord.Value n) ↔ ((word.now ≡ natural_text n) × (n < 2 ^ 128)) }
     ensures large { (result ≡ NaturalWord.Large) ↔ ((n : ℕ) × (word.now ≡ natural_text n) × ¬ (n < 2 ^ 128)) }
     ensures not { (result ≡ NaturalWord.Not) ↔ ((n : ℕ) → word.now ≢ natural_text n) }
 {
-    NaturalWord::Not
+    natural_of(word)
+}
+
+/// A zero stands before other bytes.
+fn has_leading_zero(word: &[u8]) -> bool
+    ensures { IsTrue result ↔ ((slice_index word.now 0 ≡ 48) × (1 < length word.now)) }
+{
+    word.len() > 1 && word[0] == b'0'
+}
+
+fn natural_of(word: &[u8]) -> NaturalWord
+    ensures { IsNaturalRead word.now result }
+{
+    if word.is_empty() {
+        return NaturalWord::Not;
+    }
+    if has_leading_zero(word) {
+        return NaturalWord::Not;
+    }
+    let mut value = Some(0);
+    for byte in word {
+        if !byte.is_ascii_digit() {
+            return NaturalWord::Not;
+        }
+        value = with_digit(value, *byte - b'0');
+    }
+    match value {
+        Some(n) => NaturalWord::Value(n),
+        None => NaturalWord::Large,
+    }
+}
+
+/// Reads the digits of a whole number that isn't below 0.
+fn read_nonnegative(digits: &[u8]) -> WholeWord
+    ensures { IsWholeRead (IsNonnegative digits.now) result }
+{
+    match natural_of(digits) {
+        NaturalWord::Value(n) if n <= i128::MAX as u128 => WholeWord::Value(n as i128),
+        NaturalWord::Not => WholeWord::Not,
+        _ => WholeWord::Large,
+    }
+}
+
+/// Reads the digits of a whole number above 0.
+fn read_positive(digits: &[u8]) -> WholeWord
+    ensures { IsWholeRead (IsPositive digits.now) result }
+{
+    match read_nonnegative(digits) {
+        WholeWord::Value(0) => WholeWord::Not,
+        word => word,
+    }
+}
+
+/// Reads the digits of a whole number below 0.
+fn read_negative(digits: &[u8]) -> WholeWord
+    ensures { IsWholeRead (IsNegative digits.now) result }
+{
+    match natural_of(digits) {
+        NaturalWord::Value(0) | NaturalWord::Not => WholeWord::Not,
+        NaturalWord::Value(n) if n <= i128::MAX as u128 => WholeWord::Value(-(n as i128)),
+        NaturalWord::Value(n) if n == i128::MAX as u128 + 1 => WholeWord::Value(i128::MIN),
+        _ => WholeWord::Large,
+    }
+}
+
+/// Reads a whole number, all of the word.
+fn read_whole(word: &[u8]) -> WholeWord
+    ensures { IsWholeRead (λ n. word.now ≡ whole_text n) result }
+{
+    match word {
+        [b'-', digits @ ..] => read_negative(digits),
+        _ => read_nonnegative(word),
+    }
+}
+
+/// Reads how many times √D, all of the word.
+fn read_root(word: &[u8]) -> WholeWord
+    ensures { IsWholeRead (λ n. word.now ≡ root_text n) result }
+{
+    match word {
+        [] => WholeWord::Value(0),
+        [b'+', digits @ .., b'r'] => read_positive(digits),
+        [b'-', digits @ .., b'r'] => read_negative(digits),
+        _ => WholeWord::Not,
+    }
+}
+
+/// Where the first sign behind the first byte stands, or the length.
+fn sign_place(word: &[u8]) -> usize
+    ensures { EndsAtSign word.now result }
+{
+    for (i, byte) in word.iter().enumerate() {
+        if i > 0 && (*byte == b'+' || *byte == b'-') {
+            return i;
+        }
+    }
+    word.len()
 }
 
 /// Reads a K-integer, all of the word.
@@ -58,7 +174,32 @@ pub fn read_quad(word: &[u8]) -> QuadWord
     ensures large { (result ≡ QuadWord.Large) ↔ ((x : QuadValue) × (word.now ≡ quad_text x) × ¬ (PartsFit x)) }
     ensures not { (result ≡ QuadWord.Not) ↔ ((x : QuadValue) → word.now ≢ quad_text x) }
 {
-    QuadWord::Not
+    quad_of(word)
+}
+
+fn quad_of(word: &[u8]) -> QuadWord
+    ensures { IsQuadRead word.now result }
+{
+    let end = sign_place(word);
+    let whole = read_whole(&word[..end]);
+    let root = read_root(&word[end..]);
+    match (whole, root) {
+        (WholeWord::Value(a), WholeWord::Value(b)) => QuadWord::Value(Quad { a, b }),
+        (WholeWord::Not, _) | (_, WholeWord::Not) => QuadWord::Not,
+        _ => QuadWord::Large,
+    }
+}
+
+/// Where the first comma stands, or the length.
+fn comma_place(word: &[u8]) -> usize
+    ensures { EndsAtComma word.now result }
+{
+    for (i, byte) in word.iter().enumerate() {
+        if *byte == b',' {
+            return i;
+        }
+    }
+    word.len()
 }
 
 /// Reads a vector, all of the word.
@@ -69,7 +210,31 @@ pub fn read_vector(word: &[u8]) -> VectorWord
         ↔ ((v : VectorValue) × (word.now ≡ vector_text v) × ¬ (PartsFit v.s × PartsFit v.t)) }
     ensures not { (result ≡ VectorWord.Not) ↔ ((v : VectorValue) → word.now ≢ vector_text v) }
 {
-    VectorWord::Not
+    vector_of(word)
+}
+
+fn vector_of(word: &[u8]) -> VectorWord
+    ensures { IsVectorRead word.now result }
+{
+    let end = comma_place(word);
+    if end == word.len() {
+        return VectorWord::Not;
+    }
+    let s = quad_of(&word[..end]);
+    let t = quad_of(&word[end + 1..]);
+    match (s, t) {
+        (QuadWord::Value(s), QuadWord::Value(t)) => VectorWord::Value(Vec2 { s, t }),
+        (QuadWord::Not, _) | (_, QuadWord::Not) => VectorWord::Not,
+        _ => VectorWord::Large,
+    }
+}
+
+/// Appends the text of a whole number, for which there is room.
+fn put_whole(out: &mut Vec<u8>, n: i128) -> Result<(), AllocError>
+    ensures ok { OnOk result (out.new.items ≡ out.old.items ++ whole_text n) }
+{
+    let mut buffer = Buffer::new();
+    out.extend_from_slice(buffer.format(n).as_bytes())
 }
 
 /// Appends the text of a K-integer. After an error the text is as it was.
