@@ -1,5 +1,5 @@
 -- The texts of natural numbers: digits with no leading zero, one text a number.
-use Rattle.std.proofs.Common.{◌≡◌, ◌≢◌, ℕ, zero, suc, ◌+◌, ◌-◌, ◌*◌, ◌/◌, ◌%◌, ◌^◌, ◌<◌, ◌≤◌, List, [], ◌∷◌, ◌++◌, map, length, get_or, take, Option, Some, None, MatchOption, SomeIff, refl, ap, sym, ◌∙◌, subst, arith, append_assoc}
+use Rattle.std.proofs.Common.{◌≡◌, ◌≢◌, ◌↔◌, ℕ, zero, suc, ◌+◌, ◌-◌, ◌*◌, ◌/◌, ◌%◌, ◌^◌, ◌<◌, ◌≤◌, List, [], ◌∷◌, ◌++◌, map, length, get_or, take, Option, Some, None, MatchOption, SomeIff, refl, ap, sym, ◌∙◌, subst, arith, append_assoc}
 use Rattle.std.specs.Prelude.{decimal}
 use Rattle.std.specs.Char.{digit_value}
 use Rattle.std.specs.Int.{IsInRange}
@@ -11,7 +11,10 @@ use Rattle.std.proofs.lemmas.List.{append-nil, map_push, length-map, take_all}
 use Rattle.std.proofs.lemmas.Str.{digit_value_digit}
 use Rattle.std.proofs.lemmas.Str.Parse.{digit_from_value, digit_at}
 use Rattle.std.proofs.lemmas.Fmt.{decimal_by_steps_wide}
+use Rattle.plane.specs.declared.words.NaturalWord.{NaturalWord}
+use Rattle.plane.specs.declared.words.NaturalWord.TheVariants.{Value, Large, Not}
 use Rattle.plane.specs.Spelling.{natural_text}
+use Rattle.plane.specs.Reading.{IsNaturalRead}
 
 -- what the text of a natural number looks like
 pub record IsNatural (word : List ℕ) : Type 0 where
@@ -180,3 +183,31 @@ so_far_all word i v end some lead so_far =
     let whole : IsSoFar word v = rw (take_all i word end) at so_far in
     let first : get_or word 0 0 ≡ 48 → length word ≡ 1 = λ zero_first. not_more (length word) some (λ long. lead (zero_first, long)) in
     value_read word v (natural_text_of word (record { digits = whole.digits; some = some; first = first })) whole.exact
+
+pub natural_text_some : (n : ℕ) → 0 < length (natural_text n)
+natural_text_some n = let is = natural_text_is n in is.some
+
+pub natural_text_at : (n k : ℕ) → k < length (natural_text n) → IsInRange 48 57 (get_or (natural_text n) k 0)
+natural_text_at n k below = let is = natural_text_is n in digit_at (natural_text n) k is.digits below
+
+-- a reading says which number the word spells
+pub natural_value : (word : List ℕ) (r : NaturalWord) → IsNaturalRead word r → (n : ℕ) → (r ≡ Value n) ↔ ((word ≡ natural_text n) × (n < 2 ^ 128))
+natural_value word (Value m) read n =
+    (λ e. let same : m ≡ n = cc in (read.0 ∙ ap natural_text same, subst (λ k. k < 2 ^ 128) same read.1),
+     λ h. ap Value (natural_text_injective m n (sym read.0 ∙ h.0)))
+natural_value word Large read n =
+    (λ e. absurd (cc),
+     λ h. let same = natural_text_injective read.0 n (sym read.1 ∙ h.0) in absurd (read.2 (subst (λ k. k < 2 ^ 128) (sym same) h.1)))
+natural_value word Not read n = (λ e. absurd (cc), λ h. absurd (read n h.0))
+
+pub natural_large : (word : List ℕ) (r : NaturalWord) → IsNaturalRead word r → (r ≡ Large) ↔ ((n : ℕ) × (word ≡ natural_text n) × ¬ (n < 2 ^ 128))
+natural_large word (Value m) read =
+    (λ e. absurd (cc),
+     λ h. let same = natural_text_injective m h.0 (sym read.0 ∙ h.1) in absurd (h.2 (subst (λ k. k < 2 ^ 128) same read.1)))
+natural_large word Large read = (λ e. read, λ h. refl)
+natural_large word Not read = (λ e. absurd (cc), λ h. absurd (read h.0 h.1))
+
+pub natural_not : (word : List ℕ) (r : NaturalWord) → IsNaturalRead word r → (r ≡ Not) ↔ ((n : ℕ) → word ≢ natural_text n)
+natural_not word (Value m) read = (λ e. absurd (cc), λ h. absurd (h m read.0))
+natural_not word Large read = (λ e. absurd (cc), λ h. absurd (h read.0 read.1))
+natural_not word Not read = (λ e. read, λ h. refl)

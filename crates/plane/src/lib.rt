@@ -6,4 +6,4 @@ mod vec2;
 mod words;
 
 pub use vec2::{Vec2, det, opposite, sum};
-pub use words::{NaturalWord, QuadWord, VectorWord, put_quad, read_natural, read_quad, read_vector};
+pub use words::{NaturalWord, QuadWord, VectorWord, put_quad, put_vector, read_natural, read_quad, read_vector};

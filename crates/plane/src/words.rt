@@ -1,6 +1,7 @@
 //! Numbers and vectors as words of a text, read and written in their one spelling.
 
-ghost use Rattle.std.specs.Prelude.{◌≡◌, ◌≢◌, ◌↔◌, ℕ, ◌<◌, ◌+◌, ◌*◌, ◌^◌, ◌++◌, None, SomeIff, MatchOption, IsTrue, OnOk, OnErr, length, slice_index};
+ghost use Rattle.std.specs.Prelude.{◌≡◌, ◌≢◌, ◌↔◌, ℕ, ◌<◌, ◌≤◌, vec_len, ◌+◌, ◌*◌, ◌^◌, ◌++◌, None, SomeIff, MatchOption, IsTrue, OnOk, OnErr, length, slice_index};
+ghost use Rattle.std.specs.Vec.{vec_capacity};
 ghost use Rattle.quad_field.specs.Width.{PartsFit};
 ghost use Rattle.quad_field.specs.declared.quad.Quad.{Quad as QuadValue};
 ghost use Rattle.plane.specs.declared.vec2.Vec2.{Vec2 as VectorValue};
@@ -117,8 +118,15 @@ fn read_positive(digits: &[u8]) -> WholeWord
     ensures { IsWholeRead (IsPositive digits.now) result }
 {
     match read_nonnegative(digits) {
-        WholeWord::Value(0) => WholeWord::Not,
-        word => word,
+        WholeWord::Value(n) => {
+            if n == 0 {
+                WholeWord::Not
+            } else {
+                WholeWord::Value(n)
+            }
+        }
+        WholeWord::Large => WholeWord::Large,
+        WholeWord::Not => WholeWord::Not,
     }
 }
 
@@ -127,20 +135,29 @@ fn read_negative(digits: &[u8]) -> WholeWord
     ensures { IsWholeRead (IsNegative digits.now) result }
 {
     match natural_of(digits) {
-        NaturalWord::Value(0) | NaturalWord::Not => WholeWord::Not,
+        NaturalWord::Not => WholeWord::Not,
+        NaturalWord::Value(n) if n == 0 => WholeWord::Not,
         NaturalWord::Value(n) if n <= i128::MAX as u128 => WholeWord::Value(-(n as i128)),
         NaturalWord::Value(n) if n == i128::MAX as u128 + 1 => WholeWord::Value(i128::MIN),
         _ => WholeWord::Large,
     }
 }
 
+/// The first byte is this one.
+fn starts_with(word: &[u8], byte: u8) -> bool
+    ensures { IsTrue result ↔ ((0 < length word.now) × (slice_index word.now 0 ≡ byte)) }
+{
+    !word.is_empty() && word[0] == byte
+}
+
 /// Reads a whole number, all of the word.
 fn read_whole(word: &[u8]) -> WholeWord
     ensures { IsWholeRead (λ n. word.now ≡ whole_text n) result }
 {
-    match word {
-        [b'-', digits @ ..] => read_negative(digits),
-        _ => read_nonnegative(word),
+    if starts_with(word, b'-') {
+        read_negative(&word[1..])
+    } else {
+        read_nonnegative(word)
     }
 }
 
@@ -148,10 +165,19 @@ fn read_whole(word: &[u8]) -> WholeWord
 fn read_root(word: &[u8]) -> WholeWord
     ensures { IsWholeRead (λ n. word.now ≡ root_text n) result }
 {
-    match word {
-        [] => WholeWord::Value(0),
-        [b'+', digits @ .., b'r'] => read_positive(digits),
-        [b'-', digits @ .., b'r'] => read_negative(digits),
+    if word.is_empty() {
+        return WholeWord::Value(0);
+    }
+    let last = word.len() - 1;
+    if last == 0 {
+        return WholeWord::Not;
+    }
+    if word[last] != b'r' {
+        return WholeWord::Not;
+    }
+    match word[0] {
+        b'+' => read_positive(&word[1..last]),
+        b'-' => read_negative(&word[1..last]),
         _ => WholeWord::Not,
     }
 }
@@ -181,9 +207,8 @@ fn quad_of(word: &[u8]) -> QuadWord
     ensures { IsQuadRead word.now result }
 {
     let end = sign_place(word);
-    let whole = read_whole(&word[..end]);
-    let root = read_root(&word[end..]);
-    match (whole, root) {
+    let (front, back) = word.split_at(end);
+    match (read_whole(front), read_root(back)) {
         (WholeWord::Value(a), WholeWord::Value(b)) => QuadWord::Value(Quad { a, b }),
         (WholeWord::Not, _) | (_, WholeWord::Not) => QuadWord::Not,
         _ => QuadWord::Large,
@@ -229,12 +254,52 @@ fn vector_of(word: &[u8]) -> VectorWord
     }
 }
 
-/// Appends the text of a whole number, for which there is room.
-fn put_whole(out: &mut Vec<u8>, n: i128) -> Result<(), AllocError>
-    ensures ok { OnOk result (out.new.items ≡ out.old.items ++ whole_text n) }
+/// No text of a whole number in i128 is longer.
+const WHOLE_LENGTH: usize = 40;
+
+/// No text of a K-integer with parts in i128 is longer: a sign and `r` beside two whole numbers.
+const QUAD_LENGTH: usize = 82;
+
+/// No text of a vector with parts in i128 is longer.
+const VECTOR_LENGTH: usize = 165;
+
+/// Appends the text of a whole number.
+fn append_whole(out: &mut Vec<u8>, n: i128)
+    requires { vec_len out.old + WHOLE_LENGTH ≤ vec_capacity out.old }
+    ensures items { out.new.items ≡ out.old.items ++ whole_text n }
+    ensures len { vec_len out.new ≤ vec_len out.old + WHOLE_LENGTH }
+    ensures capacity { vec_capacity out.old ≤ vec_capacity out.new }
 {
     let mut buffer = Buffer::new();
-    out.extend_from_slice(buffer.format(n).as_bytes())
+    out.extend_from_slice(buffer.format(n).as_bytes()).unwrap();
+}
+
+/// Appends how many times √D.
+fn append_root(out: &mut Vec<u8>, n: i128)
+    requires { vec_len out.old + (WHOLE_LENGTH + 2) ≤ vec_capacity out.old }
+    ensures items { out.new.items ≡ out.old.items ++ root_text n }
+    ensures len { vec_len out.new ≤ vec_len out.old + (WHOLE_LENGTH + 2) }
+    ensures capacity { vec_capacity out.old ≤ vec_capacity out.new }
+{
+    if n == 0 {
+        return;
+    }
+    if n > 0 {
+        out.push(b'+').unwrap();
+    }
+    append_whole(out, n);
+    out.push(b'r').unwrap();
+}
+
+/// Appends the text of a K-integer.
+fn append_quad(out: &mut Vec<u8>, x: Quad)
+    requires { vec_len out.old + QUAD_LENGTH ≤ vec_capacity out.old }
+    ensures items { out.new.items ≡ out.old.items ++ quad_text x }
+    ensures len { vec_len out.new ≤ vec_len out.old + QUAD_LENGTH }
+    ensures capacity { vec_capacity out.old ≤ vec_capacity out.new }
+{
+    append_whole(out, x.a);
+    append_root(out, x.b);
 }
 
 /// Appends the text of a K-integer. After an error the text is as it was.
@@ -242,5 +307,19 @@ pub fn put_quad(alloc: Global, out: &mut Vec<u8>, x: Quad) -> Result<(), AllocEr
     ensures ok { OnOk result (out.new.items ≡ out.old.items ++ quad_text x) }
     ensures err { OnErr result (out.new.items ≡ out.old.items) }
 {
-    Err(AllocError)
+    out.reserve(QUAD_LENGTH)?;
+    append_quad(out, x);
+    Ok(())
+}
+
+/// Appends the text of a vector. After an error the text is as it was.
+pub fn put_vector(alloc: Global, out: &mut Vec<u8>, v: &Vec2) -> Result<(), AllocError>
+    ensures ok { OnOk result (out.new.items ≡ out.old.items ++ vector_text v.now) }
+    ensures err { OnErr result (out.new.items ≡ out.old.items) }
+{
+    out.reserve(VECTOR_LENGTH)?;
+    append_quad(out, v.s);
+    out.push(b',').unwrap();
+    append_quad(out, v.t);
+    Ok(())
 }
