@@ -2,8 +2,10 @@
 //! Every operation is exact, or says that a step of it lies outside i128.
 #![tactic(auto)]
 
+mod counts;
 mod vec2;
 mod words;
 
+pub use counts::put_natural;
 pub use vec2::{Vec2, det, opposite, sum};
 pub use words::{NaturalWord, QuadWord, VectorWord, put_quad, put_vector, read_natural, read_quad, read_vector};

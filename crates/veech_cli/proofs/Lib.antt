@@ -1,1 +1,4 @@
 pub mod Outcomes
+pub mod Narrow
+pub mod Builds
+pub mod Edges
