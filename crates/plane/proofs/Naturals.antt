@@ -130,9 +130,9 @@ natural_text_injective m n e = sym (natural_text_value m) ∙ (ap (digits_value 
 pub natural_text-decimal : (n : ℕ) → n < 10 ^ 64 → natural_text n ≡ decimal n
 natural_text-decimal n small = decimal_by_steps_wide (λ m ds. natural_text m ≡ ds) natural_text_digit
     (λ m ds big e.
-        let step = natural_text_push (m / 10) (m % 10) (omega arith) (omega arith) in
-        let whole : m / 10 * 10 + m % 10 ≡ m = omega arith in
-        rw (whole) at step ∙ ap (λ text. text ++ glyph (m % 10) ∷ []) e)
+    let step = natural_text_push (m / 10) (m % 10) (omega arith) (omega arith) in
+    let whole : m / 10 * 10 + m % 10 ≡ m = omega arith in
+    rw (whole) at step ∙ ap (λ text. text ++ glyph (m % 10) ∷ []) e)
     n small
 
 -- what doesn't look so is the text of no number
@@ -192,18 +192,21 @@ natural_text_at n k below = let is = natural_text_is n in digit_at (natural_text
 
 -- a reading says which number the word spells
 pub natural_value : (word : List ℕ) (r : NaturalWord) → IsNaturalRead word r → (n : ℕ) → (r ≡ Value n) ↔ ((word ≡ natural_text n) × (n < 2 ^ 128))
-natural_value word (Value m) read n =
-    (λ e. let same : m ≡ n = cc in (read.0 ∙ ap natural_text same, subst (λ k. k < 2 ^ 128) same read.1),
-     λ h. ap Value (natural_text_injective m n (sym read.0 ∙ h.0)))
-natural_value word Large read n =
-    (λ e. absurd (cc),
-     λ h. let same = natural_text_injective read.0 n (sym read.1 ∙ h.0) in absurd (read.2 (subst (λ k. k < 2 ^ 128) (sym same) h.1)))
+natural_value word (Value m) read n = (
+  λ e. let same : m ≡ n = cc in (read.0 ∙ ap natural_text same, subst (λ k. k < 2 ^ 128) same read.1),
+  λ h. ap Value (natural_text_injective m n (sym read.0 ∙ h.0)),
+)
+natural_value word Large read n = (
+  λ e. absurd (cc),
+  λ h. let same = natural_text_injective read.0 n (sym read.1 ∙ h.0) in absurd (read.2 (subst (λ k. k < 2 ^ 128) (sym same) h.1)),
+)
 natural_value word Not read n = (λ e. absurd (cc), λ h. absurd (read n h.0))
 
 pub natural_large : (word : List ℕ) (r : NaturalWord) → IsNaturalRead word r → (r ≡ Large) ↔ ((n : ℕ) × (word ≡ natural_text n) × ¬ (n < 2 ^ 128))
-natural_large word (Value m) read =
-    (λ e. absurd (cc),
-     λ h. let same = natural_text_injective m h.0 (sym read.0 ∙ h.1) in absurd (h.2 (subst (λ k. k < 2 ^ 128) same read.1)))
+natural_large word (Value m) read = (
+  λ e. absurd (cc),
+  λ h. let same = natural_text_injective m h.0 (sym read.0 ∙ h.1) in absurd (h.2 (subst (λ k. k < 2 ^ 128) same read.1)),
+)
 natural_large word Large read = (λ e. read, λ h. refl)
 natural_large word Not read = (λ e. absurd (cc), λ h. absurd (read h.0 h.1))
 

@@ -52,9 +52,10 @@ ends_once word m n first second =
 pub quad_parts : (word : List ℕ) (end : ℕ) (x : Quad) → EndsAtSign word end → word ≡ quad_text x
     → (take end word ≡ whole_text x.a) × (drop end word ≡ root_text x.b)
 quad_parts word end x ends e =
-    let same = ends_once (quad_text x) (length (whole_text x.a)) end (quad_ends x) (subst (λ text. EndsAtSign text end) e ends) in
-    (ap (take end) e ∙ take_at (whole_text x.a) (root_text x.b) end same,
-     ap (drop end) e ∙ drop_at (whole_text x.a) (root_text x.b) end same)
+    let same = ends_once (quad_text x) (length (whole_text x.a)) end (quad_ends x) (subst (λ text. EndsAtSign text end) e ends) in (
+      ap (take end) e ∙ take_at (whole_text x.a) (root_text x.b) end same,
+      ap (drop end) e ∙ drop_at (whole_text x.a) (root_text x.b) end same,
+    )
 
 pub quad_joined : (word : List ℕ) (end : ℕ) (a b : ℤ) → take end word ≡ whole_text a → drop end word ≡ root_text b → word ≡ whole_text a ++ root_text b
 quad_joined word end a b whole root = let e = take-append-drop end word in cc
@@ -81,18 +82,21 @@ quad_injective x y e =
 
 -- a reading says which K-integer the word spells
 pub quad_value : (word : List ℕ) (r : QuadWord) → IsQuadRead word r → (x : Quad) → (r ≡ Value x) ↔ ((word ≡ quad_text x) × PartsFit x)
-quad_value word (Value y) read x =
-    (λ e. let same : y ≡ x = cc in subst (λ z. (word ≡ quad_text z) × PartsFit z) same read,
-     λ h. ap Value (quad_injective y x (sym read.0 ∙ h.0)))
-quad_value word Large read x =
-    (λ e. absurd (cc),
-     λ h. let same = quad_injective read.0 x (sym read.1 ∙ h.0) in absurd (read.2 (subst PartsFit (sym same) h.1)))
+quad_value word (Value y) read x = (
+  λ e. let same : y ≡ x = cc in subst (λ z. (word ≡ quad_text z) × PartsFit z) same read,
+  λ h. ap Value (quad_injective y x (sym read.0 ∙ h.0)),
+)
+quad_value word Large read x = (
+  λ e. absurd (cc),
+  λ h. let same = quad_injective read.0 x (sym read.1 ∙ h.0) in absurd (read.2 (subst PartsFit (sym same) h.1)),
+)
 quad_value word Not read x = (λ e. absurd (cc), λ h. absurd (read x h.0))
 
 pub quad_is_large : (word : List ℕ) (r : QuadWord) → IsQuadRead word r → (r ≡ Large) ↔ ((x : Quad) × (word ≡ quad_text x) × ¬ (PartsFit x))
-quad_is_large word (Value y) read =
-    (λ e. absurd (cc),
-     λ h. let same = quad_injective y h.0 (sym read.0 ∙ h.1) in absurd (h.2 (subst PartsFit same read.1)))
+quad_is_large word (Value y) read = (
+  λ e. absurd (cc),
+  λ h. let same = quad_injective y h.0 (sym read.0 ∙ h.1) in absurd (h.2 (subst PartsFit same read.1)),
+)
 quad_is_large word Large read = (λ e. read, λ h. refl)
 quad_is_large word Not read = (λ e. absurd (cc), λ h. absurd (read h.0 h.1))
 

@@ -38,7 +38,7 @@ whole_no_comma (negsuc n) = no_comma_append (45 ∷ []) (natural_text (suc n)) (
 signed_no_comma : (sign n : ℕ) → sign ≢ 44 → HasNoComma (sign ∷ (natural_text n ++ 114 ∷ []))
 signed_no_comma sign n other =
     no_comma_append (sign ∷ []) (natural_text n ++ 114 ∷ []) (no_comma_one sign other)
-        (no_comma_append (natural_text n) (114 ∷ []) (natural_no_comma n) (no_comma_one 114 (λ e. omega arith)))
+    (no_comma_append (natural_text n) (114 ∷ []) (natural_no_comma n) (no_comma_one 114 (λ e. omega arith)))
 
 root_no_comma : (n : ℤ) → HasNoComma (root_text n)
 root_no_comma (pos zero) = λ k e. omega arith
@@ -126,20 +126,23 @@ vector_injective v w e =
 
 -- a reading says which vector the word spells
 pub vector_value : (word : List ℕ) (r : VectorWord) → IsVectorRead word r → (v : Vec2) → (r ≡ Value v) ↔ ((word ≡ vector_text v) × PartsFit v.s × PartsFit v.t)
-vector_value word (Value w) read v =
-    (λ e. let same : w ≡ v = cc in subst (λ z. (word ≡ vector_text z) × PartsFit z.s × PartsFit z.t) same read,
-     λ h. ap Value (vector_injective w v (sym read.0 ∙ h.0)))
-vector_value word Large read v =
-    (λ e. absurd (cc),
-     λ h. let same = vector_injective read.0 v (sym read.1 ∙ h.0) in
-         absurd (read.2 (subst (λ z. PartsFit z.s × PartsFit z.t) (sym same) (h.1, h.2))))
+vector_value word (Value w) read v = (
+  λ e. let same : w ≡ v = cc in subst (λ z. (word ≡ vector_text z) × PartsFit z.s × PartsFit z.t) same read,
+  λ h. ap Value (vector_injective w v (sym read.0 ∙ h.0)),
+)
+vector_value word Large read v = (
+  λ e. absurd (cc),
+  λ h. let same = vector_injective read.0 v (sym read.1 ∙ h.0) in
+      absurd (read.2 (subst (λ z. PartsFit z.s × PartsFit z.t) (sym same) (h.1, h.2))),
+)
 vector_value word Not read v = (λ e. absurd (cc), λ h. absurd (read v h.0))
 
 pub vector_large : (word : List ℕ) (r : VectorWord) → IsVectorRead word r → (r ≡ Large) ↔ ((v : Vec2) × (word ≡ vector_text v) × ¬ (PartsFit v.s × PartsFit v.t))
-vector_large word (Value w) read =
-    (λ e. absurd (cc),
-     λ h. let same = vector_injective w h.0 (sym read.0 ∙ h.1) in
-         absurd (h.2 (subst (λ z. PartsFit z.s × PartsFit z.t) same (read.1, read.2))))
+vector_large word (Value w) read = (
+  λ e. absurd (cc),
+  λ h. let same = vector_injective w h.0 (sym read.0 ∙ h.1) in
+      absurd (h.2 (subst (λ z. PartsFit z.s × PartsFit z.t) same (read.1, read.2))),
+)
 vector_large word Large read = (λ e. read, λ h. refl)
 vector_large word Not read = (λ e. absurd (cc), λ h. absurd (read h.0 h.1))
 

@@ -74,9 +74,9 @@ whole_minus [] r first read = absurd (omega (arith, first.0))
 whole_minus (c ∷ digits) r first read =
     let same : c ≡ 45 = first.1 in
     same_reading (IsNegative digits) (λ n. c ∷ digits ≡ whole_text n)
-        (λ n is. ap (λ b. b ∷ digits) same ∙ minus_to digits n is)
-        (λ n e. minus_back digits n (ap (λ b. b ∷ digits) (sym same) ∙ e))
-        r read
+    (λ n is. ap (λ b. b ∷ digits) same ∙ minus_to digits n is)
+    (λ n e. minus_back digits n (ap (λ b. b ∷ digits) (sym same) ∙ e))
+    r read
 
 plain_to : (word : List ℕ) (n : ℤ) → IsNonnegative word n → word ≡ whole_text n
 plain_to word (pos n) is = is
@@ -141,7 +141,7 @@ root_plus word last r long some root sign read =
     let digits = take (last - 1) (drop 1 word) in
     let shape : word ≡ 43 ∷ (digits ++ 114 ∷ []) = ends_with_root word last long some root ∙ ap (λ b. b ∷ (digits ++ 114 ∷ [])) sign in
     same_reading (IsPositive digits) (λ n. word ≡ root_text n)
-        (λ n is. shape ∙ plus_to digits n is) (λ n e. plus_back digits n (sym shape ∙ e)) r read
+    (λ n is. shape ∙ plus_to digits n is) (λ n e. plus_back digits n (sym shape ∙ e)) r read
 
 pub root_minus : (word : List ℕ) (last : ℕ) (r : WholeWord) → last + 1 ≡ length word → 0 < last → get_or word last 0 ≡ 114
     → get_or word 0 0 ≡ 45 → IsWholeRead (IsNegative (take (last - 1) (drop 1 word))) r → IsWholeRead (λ n. word ≡ root_text n) r
@@ -149,7 +149,7 @@ root_minus word last r long some root sign read =
     let digits = take (last - 1) (drop 1 word) in
     let shape : word ≡ 45 ∷ (digits ++ 114 ∷ []) = ends_with_root word last long some root ∙ ap (λ b. b ∷ (digits ++ 114 ∷ [])) sign in
     same_reading (IsNegative digits) (λ n. word ≡ root_text n)
-        (λ n is. shape ∙ root_minus_to digits n is) (λ n e. root_minus_back digits n (sym shape ∙ e)) r read
+    (λ n is. shape ∙ root_minus_to digits n is) (λ n e. root_minus_back digits n (sym shape ∙ e)) r read
 
 -- what a multiple of √D looks like where it isn't 0
 pub record IsRootShaped (word : List ℕ) : Type 0 where

@@ -1,4 +1,4 @@
-//! Numbers and vectors as words of a text, read and written in their one spelling.
+//! Words of a text as numbers and vectors, read in their one spelling.
 
 ghost use Rattle.std.specs.Prelude.{◌≡◌, ◌≢◌, ◌↔◌, ℕ, ◌<◌, ◌≤◌, vec_len, ◌+◌, ◌*◌, ◌^◌, ◌++◌, None, SomeIff, MatchOption, IsTrue, OnOk, OnErr, length, slice_index};
 ghost use Rattle.std.specs.Vec.{vec_capacity};
@@ -9,9 +9,7 @@ ghost use Rattle.plane.specs.Spelling.{natural_text, whole_text, root_text, quad
 ghost use Rattle.plane.specs.Reading.{IsNaturalRead, IsWholeRead, IsQuadRead, IsVectorRead, IsNonnegative, IsPositive, IsNegative, EndsAtSign, EndsAtComma};
 
 use super::Vec2;
-use itoa::Buffer;
 use quad_field::Quad;
-use std::alloc::{AllocError, Global};
 
 /// What a word is as a natural number.
 #[derive(Clone, Copy, Debug, PartialEq, Eq)]
@@ -57,6 +55,13 @@ enum WholeWord {
     Not,
 }
 
+/// A zero stands before other bytes.
+fn has_leading_zero(word: &[u8]) -> bool
+    ensures { IsTrue result ↔ ((slice_index word.now 0 ≡ 48) × (1 < length word.now)) }
+{
+    word.len() > 1 && word[0] == b'0'
+}
+
 /// The number with one digit more, or None from 2^128 on.
 fn with_digit(value: Option<u128>, digit: u8) -> Option<u128>
     ensures { MatchOption value (result ≡ None) (λ n. SomeIff result (n * 10 + digit < 2 ^ 128) (n * 10 + digit)) }
@@ -73,13 +78,7 @@ pub fn read_natural(word: &[u8]) -> NaturalWord
     natural_of(word)
 }
 
-/// A zero stands before other bytes.
-fn has_leading_zero(word: &[u8]) -> bool
-    ensures { IsTrue result ↔ ((slice_index word.now 0 ≡ 48) × (1 < length word.now)) }
-{
-    word.len() > 1 && word[0] == b'0'
-}
-
+/// The same, case by case.
 fn natural_of(word: &[u8]) -> NaturalWord
     ensures { IsNaturalRead word.now result }
 {
@@ -118,13 +117,8 @@ fn read_positive(digits: &[u8]) -> WholeWord
     ensures { IsWholeRead (IsPositive digits.now) result }
 {
     match read_nonnegative(digits) {
-        WholeWord::Value(n) => {
-            if n == 0 {
-                WholeWord::Not
-            } else {
-                WholeWord::Value(n)
-            }
-        }
+        WholeWord::Value(n) if n == 0 => WholeWord::Not,
+        WholeWord::Value(n) => WholeWord::Value(n),
         WholeWord::Large => WholeWord::Large,
         WholeWord::Not => WholeWord::Not,
     }
@@ -203,6 +197,7 @@ pub fn read_quad(word: &[u8]) -> QuadWord
     quad_of(word)
 }
 
+/// The same, case by case.
 fn quad_of(word: &[u8]) -> QuadWord
     ensures { IsQuadRead word.now result }
 {
@@ -238,6 +233,7 @@ pub fn read_vector(word: &[u8]) -> VectorWord
     vector_of(word)
 }
 
+/// The same, case by case.
 fn vector_of(word: &[u8]) -> VectorWord
     ensures { IsVectorRead word.now result }
 {
@@ -252,74 +248,4 @@ fn vector_of(word: &[u8]) -> VectorWord
         (QuadWord::Not, _) | (_, QuadWord::Not) => VectorWord::Not,
         _ => VectorWord::Large,
     }
-}
-
-/// No text of a whole number in i128 is longer.
-const WHOLE_LENGTH: usize = 40;
-
-/// No text of a K-integer with parts in i128 is longer: a sign and `r` beside two whole numbers.
-const QUAD_LENGTH: usize = 82;
-
-/// No text of a vector with parts in i128 is longer.
-const VECTOR_LENGTH: usize = 165;
-
-/// Appends the text of a whole number.
-fn append_whole(out: &mut Vec<u8>, n: i128)
-    requires { vec_len out.old + WHOLE_LENGTH ≤ vec_capacity out.old }
-    ensures items { out.new.items ≡ out.old.items ++ whole_text n }
-    ensures len { vec_len out.new ≤ vec_len out.old + WHOLE_LENGTH }
-    ensures capacity { vec_capacity out.old ≤ vec_capacity out.new }
-{
-    let mut buffer = Buffer::new();
-    out.extend_from_slice(buffer.format(n).as_bytes()).unwrap();
-}
-
-/// Appends how many times √D.
-fn append_root(out: &mut Vec<u8>, n: i128)
-    requires { vec_len out.old + (WHOLE_LENGTH + 2) ≤ vec_capacity out.old }
-    ensures items { out.new.items ≡ out.old.items ++ root_text n }
-    ensures len { vec_len out.new ≤ vec_len out.old + (WHOLE_LENGTH + 2) }
-    ensures capacity { vec_capacity out.old ≤ vec_capacity out.new }
-{
-    if n == 0 {
-        return;
-    }
-    if n > 0 {
-        out.push(b'+').unwrap();
-    }
-    append_whole(out, n);
-    out.push(b'r').unwrap();
-}
-
-/// Appends the text of a K-integer.
-fn append_quad(out: &mut Vec<u8>, x: Quad)
-    requires { vec_len out.old + QUAD_LENGTH ≤ vec_capacity out.old }
-    ensures items { out.new.items ≡ out.old.items ++ quad_text x }
-    ensures len { vec_len out.new ≤ vec_len out.old + QUAD_LENGTH }
-    ensures capacity { vec_capacity out.old ≤ vec_capacity out.new }
-{
-    append_whole(out, x.a);
-    append_root(out, x.b);
-}
-
-/// Appends the text of a K-integer. After an error the text is as it was.
-pub fn put_quad(alloc: Global, out: &mut Vec<u8>, x: Quad) -> Result<(), AllocError>
-    ensures ok { OnOk result (out.new.items ≡ out.old.items ++ quad_text x) }
-    ensures err { OnErr result (out.new.items ≡ out.old.items) }
-{
-    out.reserve(QUAD_LENGTH)?;
-    append_quad(out, x);
-    Ok(())
-}
-
-/// Appends the text of a vector. After an error the text is as it was.
-pub fn put_vector(alloc: Global, out: &mut Vec<u8>, v: &Vec2) -> Result<(), AllocError>
-    ensures ok { OnOk result (out.new.items ≡ out.old.items ++ vector_text v.now) }
-    ensures err { OnErr result (out.new.items ≡ out.old.items) }
-{
-    out.reserve(VECTOR_LENGTH)?;
-    append_quad(out, v.s);
-    out.push(b',').unwrap();
-    append_quad(out, v.t);
-    Ok(())
 }

@@ -3,8 +3,8 @@ use Rattle.std.proofs.lemmas.Int.{ints}
 use Rattle.plane.proofs.Wholes.{positive_zero, positive_is, positive_large}
 use Rattle.plane.proofs.words.read_positive.Goals as goal
 
-pub returns-then-n-eq0 : goal.returns-then-n-eq0
-returns-then-n-eq0 c =
+pub returns-in-Value : goal.returns-in-Value
+returns-in-Value c =
     let read = c.in-Value.ensures in
     let fits = read.1 in
     let zero : c.in-Value.n ≡ pos 0 = omega (arith, ints) in
