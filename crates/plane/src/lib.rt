@@ -3,5 +3,7 @@
 #![tactic(auto)]
 
 mod vec2;
+mod words;
 
 pub use vec2::{Vec2, det, opposite, sum};
+pub use words::{NaturalWord, QuadWord, VectorWord, put_quad, put_vector, read_natural, read_quad, read_vector};
