@@ -13,6 +13,9 @@ use super::triangle_file::{Glue, Triangle, TriangleFile};
 use std::alloc::{AllocError, Global};
 use tri_core::Half;
 
+#[cfg(test)]
+mod tests;
+
 /// Stands for the twin of a side that no glue line has named.
 const NOT_NAMED: u32 = u32::MAX;
 
