@@ -1,4 +1,7 @@
-pub mod Outcomes
-pub mod Narrow
 pub mod Builds
 pub mod Edges
+pub mod Naming
+pub mod Narrow
+pub mod Outcomes
+pub mod Tables
+pub mod Twins

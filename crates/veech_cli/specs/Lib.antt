@@ -11,6 +11,7 @@ pub use Rattle.io_ends.specs.Ends
 pub mod Commands
 pub mod TriangleFiles
 pub mod Contents
+pub mod Pairings
 pub mod Statuses
 pub mod Texts
 pub mod Runs
