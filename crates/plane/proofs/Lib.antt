@@ -1,0 +1,4 @@
+pub mod Naturals
+pub mod Wholes
+pub mod Quads
+pub mod Vectors

@@ -1,0 +1,200 @@
+//! Tables of words with what they are read as, and of numbers with their text.
+
+use super::{
+    NaturalWord, QuadWord, Vec2, VectorWord, put_quad, put_vector, read_natural, read_quad,
+    read_vector,
+};
+use quad_field::Quad;
+use std::test::Fail;
+
+const MAX: i128 = i128::MAX;
+
+const MIN: i128 = i128::MIN;
+
+fn quad(a: i128, b: i128) -> Quad {
+    Quad { a, b }
+}
+
+#[test]
+fn reads_the_one_spelling_of_a_natural_number(rt: HostRuntime) {
+    for (word, read) in [
+        ("0", NaturalWord::Value(0)),
+        ("7", NaturalWord::Value(7)),
+        ("10", NaturalWord::Value(10)),
+        (
+            "340282366920938463463374607431768211455",
+            NaturalWord::Value(u128::MAX),
+        ),
+        (
+            "340282366920938463463374607431768211456",
+            NaturalWord::Large,
+        ),
+        (
+            "1000000000000000000000000000000000000000",
+            NaturalWord::Large,
+        ),
+        (
+            "1000000000000000000000000000000000000000x",
+            NaturalWord::Not,
+        ),
+        ("", NaturalWord::Not),
+        ("00", NaturalWord::Not),
+        ("01", NaturalWord::Not),
+        ("+1", NaturalWord::Not),
+        ("-1", NaturalWord::Not),
+        ("1 ", NaturalWord::Not),
+        ("1:", NaturalWord::Not),
+        ("/1", NaturalWord::Not),
+    ] {
+        assert_eq!(rt; read_natural(word.as_bytes()), read, "at {word}");
+    }
+}
+
+#[test]
+fn reads_k_integers(rt: HostRuntime) {
+    for (word, x) in [
+        ("0", quad(0, 0)),
+        ("1", quad(1, 0)),
+        ("-1", quad(-1, 0)),
+        ("10", quad(10, 0)),
+        ("-10", quad(-10, 0)),
+        ("0+1r", quad(0, 1)),
+        ("0-1r", quad(0, -1)),
+        ("-5+3r", quad(-5, 3)),
+        ("170141183460469231731687303715884105727+1r", quad(MAX, 1)),
+        (
+            "-170141183460469231731687303715884105728-20r",
+            quad(MIN, -20),
+        ),
+        ("1+170141183460469231731687303715884105727r", quad(1, MAX)),
+        ("0-170141183460469231731687303715884105728r", quad(0, MIN)),
+    ] {
+        assert_eq!(rt; read_quad(word.as_bytes()), QuadWord::Value(x), "at {word}");
+    }
+}
+
+#[test]
+fn tells_large_k_integers(rt: HostRuntime) {
+    for word in [
+        "170141183460469231731687303715884105728",
+        "-170141183460469231731687303715884105729",
+        "0+170141183460469231731687303715884105728r",
+        "0-170141183460469231731687303715884105729r",
+        "1234567890123456789012345678901234567890",
+        "1234567890123456789012345678901234567890+1r",
+        "1-1234567890123456789012345678901234567890r",
+    ] {
+        assert_eq!(rt; read_quad(word.as_bytes()), QuadWord::Large, "at {word}");
+    }
+}
+
+#[test]
+fn refuses_other_words(rt: HostRuntime) {
+    for word in [
+        "",
+        "-",
+        "-0",
+        "00",
+        "01",
+        "+1",
+        "1r",
+        "r",
+        "0r",
+        "1+0r",
+        "1-0r",
+        "1+-1r",
+        "1+1",
+        "1+r",
+        "1++1r",
+        "1+1r1",
+        "1+1r+1r",
+        " 1",
+        "1 ",
+        "1+01r",
+        "--1",
+        "-0+1r",
+        "+1r",
+        "1,1",
+        "1+1R",
+        "1\u{e9}",
+        "1234567890123456789012345678901234567890+0r",
+    ] {
+        assert_eq!(rt; read_quad(word.as_bytes()), QuadWord::Not, "at {word}");
+    }
+    assert_eq!(rt; read_quad(&[128]), QuadWord::Not);
+    assert_eq!(rt; read_quad(&[b'1', 128]), QuadWord::Not);
+}
+
+#[test]
+fn reads_ten_thousand_digits(rt: HostRuntime) -> Result<(), Fail> {
+    let mut word = Vec::new(rt.alloc());
+    for _ in 0..10000 {
+        word.push(b'9')?;
+    }
+    assert_eq!(rt; read_natural(&word), NaturalWord::Large);
+    assert_eq!(rt; read_quad(&word), QuadWord::Large);
+    word.push(b'+')?;
+    assert_eq!(rt; read_quad(&word), QuadWord::Not);
+    Ok(())
+}
+
+#[test]
+fn reads_vectors(rt: HostRuntime) {
+    let large = "1,170141183460469231731687303715884105728";
+    for (word, read) in [
+        (
+            "1,0",
+            VectorWord::Value(Vec2 {
+                s: quad(1, 0),
+                t: quad(0, 0),
+            }),
+        ),
+        (
+            "0+1r,-2-3r",
+            VectorWord::Value(Vec2 {
+                s: quad(0, 1),
+                t: quad(-2, -3),
+            }),
+        ),
+        (large, VectorWord::Large),
+        ("1", VectorWord::Not),
+        ("1,", VectorWord::Not),
+        (",1", VectorWord::Not),
+        ("1,2,3", VectorWord::Not),
+        ("1, 2", VectorWord::Not),
+        ("1;2", VectorWord::Not),
+    ] {
+        assert_eq!(rt; read_vector(word.as_bytes()), read, "at {word}");
+    }
+}
+
+#[test]
+fn writes_behind_what_stands(rt: HostRuntime) -> Result<(), Fail> {
+    for (x, text) in [
+        (quad(0, 0), "x 0"),
+        (quad(-10, 0), "x -10"),
+        (quad(0, 1), "x 0+1r"),
+        (quad(0, -1), "x 0-1r"),
+        (quad(-5, 30), "x -5+30r"),
+        (
+            quad(MIN, MIN),
+            "x -170141183460469231731687303715884105728-170141183460469231731687303715884105728r",
+        ),
+        (
+            quad(MAX, MAX),
+            "x 170141183460469231731687303715884105727+170141183460469231731687303715884105727r",
+        ),
+    ] {
+        let mut out = Vec::from_slice(rt.alloc(), b"x ")?;
+        put_quad(rt.alloc(), &mut out, x)?;
+        assert_eq!(rt; out.as_slice(), text.as_bytes());
+    }
+    let mut out = Vec::from_slice(rt.alloc(), b"v ")?;
+    let v = Vec2 {
+        s: quad(0, 1),
+        t: quad(-2, -3),
+    };
+    put_vector(rt.alloc(), &mut out, &v)?;
+    assert_eq!(rt; out.as_slice(), b"v 0+1r,-2-3r".as_slice());
+    Ok(())
+}
