@@ -6,3 +6,4 @@ pub use Rattle.plane.specs.Vectors
 pub mod HalfEdges
 pub mod Triangulation
 pub mod Refusals
+pub mod Search

@@ -1,7 +1,6 @@
 -- When a list of half-edges is refused, and where.
-use Rattle.std.specs.Prelude.{◌≡◌, ℕ, ◌+◌, ◌*◌, ◌<◌, List, length, ⊤}
+use Rattle.std.specs.Prelude.{◌≡◌, ℕ, ◌+◌, ◌*◌, ◌<◌, List, length, Option, Some, None, ⊤}
 use Rattle.quad_field.specs.Width.{term_ops, StepsFit}
-use Rattle.quad_field.specs.declared.formula.Formula.{Formula}
 use Rattle.quad_field.specs.declared.formula.Formula.TheVariants.{F13}
 use Rattle.plane.specs.Vectors.{det, vector_sum, vector_term, VectorFits}
 use Rattle.tri_core.specs.declared.half.Half.{Half}
@@ -20,6 +19,15 @@ pub record FailsFirst (Counts P : ℕ → Type 0) (n : ℕ) : Type 0 where
 abbrev pub HoldsAll : (ℕ → Type 0) → (ℕ → Type 0) → Type 0
 HoldsAll Counts P = (k : ℕ) → Counts k → P k
 
+-- n is below the bound
+abbrev pub IsBelow : ℕ → ℕ → Type 0
+IsBelow bound n = n < bound
+
+-- the least place where P fails, or none where P holds at each
+abbrev pub IsFirstFailure : (ℕ → Type 0) → (ℕ → Type 0) → Option ℕ → Type 0
+IsFirstFailure Counts P None = HoldsAll Counts P
+IsFirstFailure Counts P (Some n) = FailsFirst Counts P n
+
 -- the sum of triangle t's vectors, or the determinant of its first two, has a step outside i128
 abbrev pub IsWideAt : ℕ → List Half → ℕ → Type 0
 IsWideAt d halves t =
@@ -27,6 +35,10 @@ IsWideAt d halves t =
     let v = vector_term (half_at halves (3 * t + 1)).vec in
     let w = vector_term (half_at halves (3 * t + 2)).vec in
     ¬ (VectorFits d (vector_sum term_ops (vector_sum term_ops u v) w) × StepsFit d (det term_ops u v))
+
+-- some triangle's sum or determinant has such a step
+abbrev pub HasWide : ℕ → List Half → Type 0
+HasWide d halves = (t : ℕ) × IsTriangle halves t × IsWideAt d halves t
 
 -- h is the number of a half-edge
 abbrev pub IsHalf : List Half → ℕ → Type 0

@@ -1,6 +1,6 @@
 -- Triangulations: 2 to 256 triangles whose vectors sum to zero and turn to the left, paired side by side, and connected.
 use Rattle.std.specs.Prelude.{◌≡◌, ℕ, pos, ◌+◌, ◌*◌, ◌%◌, ◌<◌, ◌≤◌, Bool, IsTrue, List, length}
-use Rattle.quad_field.specs.Quads.{quad_ops, IsPositive, IsZero}
+use Rattle.quad_field.specs.Quads.{quad_ops, IsPositive}
 use Rattle.plane.specs.Vectors.{det, vector_sum, opposite_vector}
 use Rattle.tri_core.specs.declared.half.Half.{Half}
 use Rattle.tri_core.specs.HalfEdges.{vector_at, twin_at, triangle_of}

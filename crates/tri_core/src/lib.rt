@@ -2,8 +2,16 @@
 //! Whoever holds a `Tri` knows by its type that its half-edges are a triangulation.
 #![tactic(auto)]
 
+mod closed;
 mod half;
+mod joined;
+mod paired;
+mod search;
 mod tri;
+mod turns;
 
 pub use half::Half;
 pub use tri::{BadTri, Tri};
+
+#[cfg(test)]
+mod tests;

@@ -2,12 +2,18 @@
 
 ghost use Rattle.std.specs.Prelude.{◌≡◌, ◌↔◌, ℕ, ◌+◌, ◌*◌, ◌<◌, ◌≤◌, length, slice_get, Some, IsTrue, IsErrOf, IfOk, OnOk, IfErr};
 ghost use Rattle.tri_core.specs.HalfEdges.{next_of, twin_at};
-ghost use Rattle.tri_core.specs.Triangulation.{IsTriangulation};
+ghost use Rattle.tri_core.specs.Triangulation.{HasTriangles, IsTriangulation};
 ghost use Rattle.tri_core.specs.Refusals.{IsCause};
+ghost use Rattle.tri_core.specs.declared.tri.BadTri.TheVariants.{Wide, Memory};
+ghost use Rattle.quad_field.specs.declared.formula.Formula.TheVariants.{F13};
 
 use super::Half;
-use quad_field::{Field, Formula};
-use std::alloc::Global;
+use super::closed::first_open;
+use super::joined::first_apart;
+use super::paired::first_unpaired;
+use super::turns::first_not_left;
+use quad_field::{Field, Formula, TooWide};
+use std::alloc::{AllocError, Global};
 use std::marker::Model;
 
 /// Why half-edges aren't a triangulation: the first condition that fails, at the least triangle or half-edge.
@@ -27,6 +33,54 @@ pub enum BadTri {
     Apart(u32),
     /// Memory ran out.
     Memory,
+}
+
+impl From<TooWide> for BadTri {
+    ghost from_gives = { λ _ e. e ≡ Wide F13 };
+
+    fn from(_wide: TooWide) -> BadTri {
+        BadTri::Wide(Formula::F13)
+    }
+}
+
+impl From<AllocError> for BadTri {
+    ghost from_gives = { λ _ e. e ≡ Memory };
+
+    fn from(_full: AllocError) -> BadTri {
+        BadTri::Memory
+    }
+}
+
+/// Whether this many half-edges make 2 to 256 triangles.
+fn has_triangles(halves: &[Half]) -> bool
+    ensures { IsTrue result ↔ HasTriangles halves.now }
+{
+    let count = halves.len();
+    count % 3 == 0 && 6 <= count && count <= 768
+}
+
+/// Whether these half-edges are a triangulation: the conditions in their order, each at all its places.
+fn check(alloc: Global, f: &Field, halves: &[Half]) -> Result<(), BadTri>
+    ensures valid { OnOk result (IsTriangulation f.now halves.now) }
+    ensures cause { IfErr result (IsCause f.now halves.now) }
+    ensures count { ¬ (HasTriangles halves.now) → IsErrOf result BadTri.Count }
+{
+    if !has_triangles(halves) {
+        return Err(BadTri::Count);
+    }
+    if let Some(t) = first_open(f, halves)? {
+        return Err(BadTri::Sum(t));
+    }
+    if let Some(t) = first_not_left(f, halves)? {
+        return Err(BadTri::Turn(t));
+    }
+    if let Some(h) = first_unpaired(f, halves) {
+        return Err(BadTri::Twin(h));
+    }
+    if let Some(t) = first_apart(alloc, halves)? {
+        return Err(BadTri::Apart(t));
+    }
+    Ok(())
 }
 
 /// A checked triangulation over one field. Half-edge `3t + k` is side k of triangle t.
@@ -56,7 +110,11 @@ impl Tri {
         ensures cause { IfErr result (IsCause f.now halves.items) }
         ensures count { IsErrOf result BadTri.Count ↔ IsCause f.now halves.items BadTri.Count }
     {
-        Err(BadTri::Count)
+        check(alloc, f, halves.as_slice())?;
+        Ok(Tri {
+            field: f.number(),
+            halves,
+        })
     }
 
     /// How many triangles it has.
@@ -64,7 +122,7 @@ impl Tri {
         ensures count { 3 * result ≡ length self.now.halves }
         ensures valid { IsTriangulation self.now.field self.now.halves }
     {
-        0
+        (self.halves.len() / 3) as u32
     }
 
     /// The half-edge of number h.
@@ -79,7 +137,10 @@ impl Tri {
     pub fn is_edge(&self, h: u32) -> bool
         ensures { IsTrue result ↔ ((h < length self.now.halves) × (h < twin_at self.now.halves h)) }
     {
-        false
+        match self.halves.as_slice().get(h as usize) {
+            Some(half) => h < half.twin,
+            None => false,
+        }
     }
 
     /// The half-edge after h in its triangle.
@@ -87,6 +148,6 @@ impl Tri {
         requires { h < 768 }
         ensures { result ≡ next_of h }
     {
-        h
+        if h % 3 == 2 { h - 2 } else { h + 1 }
     }
 }
