@@ -38,7 +38,12 @@ impl MemSink {
     /// these numbers.
     ///
     /// Refuses only where no memory is left.
-    pub fn make(alloc: Global, most: usize, room: usize, fails: Vec<u64>) -> Result<MemSink, AllocError>
+    pub fn make(
+        alloc: Global,
+        most: usize,
+        room: usize,
+        fails: Vec<u64>,
+    ) -> Result<MemSink, AllocError>
         requires { 1 ≤ most }
         ensures { IfOk result (λ sink. sink ≡ record { bytes = []; room = room; most = most; fails = fails.items; call = 0; faults = 0 }) }
     {

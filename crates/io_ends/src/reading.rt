@@ -48,6 +48,7 @@ pub fn read_all<S: Source>(alloc: Global, source: &mut S, limit: usize) -> Resul
     ensures all { IfOk result (λ bytes. IfSome (S.left source.old) (λ left. bytes.items ≡ left)) }
     ensures nothing_left { OnOk result (S.left source.new ≡ option_map (λ _. []) (S.left source.old)) }
     ensures too_long { IsErrOf result ReadAll.TooLong → IfSome (S.left source.old) (λ left. limit < length left) }
+    ensures one_past { IsErrOf result ReadAll.TooLong → S.left source.new ≡ given (limit + 1) (S.left source.old) }
     ensures fault { IsErrOf result ReadAll.Fault → Rose (S.faults source.old) (S.faults source.new) }
     // n bytes were read: limit + 1 where there were too many, and else at most limit.
     ensures reads { (n : ℕ) × (n ≤ limit + 1) × (IsErrOf result ReadAll.TooLong ↔ (n ≡ limit + 1))

@@ -1,5 +1,5 @@
 -- The cases of `is_below`, over plain numbers.
-use Rattle.std.proofs.Common.{◌≡◌, ℕ, ◌+◌, ◌*◌, ◌-◌, ◌/◌, ◌%◌, ◌<◌, ◌≤◌, ◌↔◌, IsTrue, Bool, true, false, not, arith, ap, refl, sym, ◌∙◌}
+use Rattle.std.proofs.Common.{◌≡◌, ℕ, ◌+◌, ◌*◌, ◌-◌, ◌/◌, ◌<◌, ◌≤◌, ◌↔◌, IsTrue, Bool, true, false, not, arith, refl}
 use Rattle.std.proofs.lemmas.Nat.{mul-le, div-add-mod', mod_below}
 use native.Mathlib.Nat.{le_refl}
 use Rattle.quad_field.specs.FieldNumber.{IsSquareFree}
@@ -24,17 +24,11 @@ module _ (d k s t w : ℕ) (c : IsCompleteQuotient d k s t w) where
   n_small = omega (arith, under, mul-le ((s + k) / t) 1 ((s + k) / t) t (le_refl _) c.some)
 
   module _ (p q : ℕ) (more : 0 < q) where
-    pub below_case : (n : ℕ) → n ≡ (s + k) / t → p / q < n → IsBelowQuotient d p q s t
-    below_case n e h = less_up_to d k s t w ((s + k) / t) c under over p q more
-        (omega (arith, (divided p q more).1, mul-le (p / q + 1) q ((s + k) / t) q (omega (arith, e, h)) (le_refl q)))
+    pub below_case : p ≤ (s + k) / t * q → IsBelowQuotient d p q s t
+    below_case h = less_up_to d k s t w ((s + k) / t) c under over p q more h
 
-    pub above_case : (n : ℕ) → n ≡ (s + k) / t → n < p / q → ¬ (IsBelowQuotient d p q s t)
-    above_case n e h = not_less_after d k s t w ((s + k) / t) c under over p q more
-        (omega (arith, (divided p q more).0, mul-le ((s + k) / t + 1) q (p / q) q (omega (arith, e, h)) (le_refl q)))
-
-    pub exact_case : (n : ℕ) → n ≡ (s + k) / t → p / q ≤ n → p % q ≡ 0 → IsBelowQuotient d p q s t
-    exact_case n e h z = less_up_to d k s t w ((s + k) / t) c under over p q more
-        (omega (arith, div-add-mod' p q, z, mul-le (p / q) q ((s + k) / t) q (omega (arith, e, h)) (le_refl q)))
+    pub above_case : (s + k) / t * q + q ≤ p → ¬ (IsBelowQuotient d p q s t)
+    above_case h = not_less_after d k s t w ((s + k) / t) c under over p q more (omega (arith, h))
 
   pub s_fits : s ≤ (s + k) / t * t
   s_fits = next_fits d k s t w ((s + k) / t) c under over
@@ -68,12 +62,11 @@ module _ (d k s t w : ℕ) (c : IsCompleteQuotient d k s t w) where
       )
 
   module _ (free : IsSquareFree d) (two : 2 ≤ d) (p q : ℕ) (more : 0 < q) where
-    pub turn_case : (n : ℕ) → n ≡ (s + k) / t → n ≤ p / q → p / q ≤ n → 0 < p % q → (b : Bool) → (IsTrue b ↔ IsBelowQuotient d q (p % q) next_s next_t) → IsTrue (not b) ↔ IsBelowQuotient d p q s t
-    turn_case n e h g rest b i =
-        let split : p ≡ (s + k) / t * q + p % q = sym (div-add-mod' p q) ∙ ap (λ x. x * q + p % q) (omega (arith, e, h, g)) in (
-          λ y. turn_back d k s t w ((s + k) / t) c under over next_s next_sum next_t next_made p q (p % q) more rest split (λ a x z. (irrational d free two a x z).1) (λ l. not_both b y (i.1 l)),
-          λ l. not_yes b (λ y. turn_there d k s t w ((s + k) / t) c under over next_s next_sum next_t next_made p q (p % q) more rest split l (i.0 y)),
-        )
+    pub turn_case : (r : ℕ) → 0 < r → p ≡ (s + k) / t * q + r → (b : Bool) → (IsTrue b ↔ IsBelowQuotient d q r next_s next_t) → IsTrue (not b) ↔ IsBelowQuotient d p q s t
+    turn_case r rest split b i = (
+      λ y. turn_back d k s t w ((s + k) / t) c under over next_s next_sum next_t next_made p q r more rest split (λ a x z. (irrational d free two a x z).1) (λ l. not_both b y (i.1 l)),
+      λ l. not_yes b (λ y. turn_there d k s t w ((s + k) / t) c under over next_s next_sum next_t next_made p q r more rest split l (i.0 y)),
+    )
       where
         not_both : (b : Bool) → IsTrue (not b) → IsTrue b → ⊥
         not_both true y z = never_true y

@@ -32,29 +32,29 @@ fn is_below_root(d: u32, p: u128, q: u128) -> bool
     if p < SMALL && q < SMALL {
         return p * p < u128::from(d) * (q * q);
     }
-    is_below_quotient(d, d.isqrt(), p, q, 0, 1, d)
+    let root = d.isqrt();
+    is_below_quotient(d, root, p, q, 0, 1, d)
 }
 
 /// Whether p / q is below (s + √d) / t, a complete quotient of √d, where k is the whole part of √d.
-/// Either the whole parts differ, or the rests are compared, upside down, by the next complete quotient.
+/// The whole part of the quotient is n. Either p / q has another one, or the rests are compared, upside down,
+/// with the next complete quotient.
 fn is_below_quotient(d: u32, k: u32, p: u128, q: u128, s: u32, t: u32, w: u32) -> bool
     requires field { IsFieldNumber d }
     requires some { 0 < q }
     requires quotient { IsCompleteQuotient d k s t w }
     ensures { IsTrue result ↔ IsBelowQuotient d p q s t }
 {
-    let whole = p / q;
-    let rest = p % q;
     let n = (s + k) / t;
-    let n_wide = u128::from(n);
-    if whole < n_wide {
+    let Some(whole) = q.checked_mul(u128::from(n)) else {
+        return true;
+    };
+    if p <= whole {
         return true;
     }
-    if n_wide < whole {
+    let rest = p - whole;
+    if q <= rest {
         return false;
-    }
-    if rest == 0 {
-        return true;
     }
     let next_s = n * t - s;
     let next_t = w + n * s - n * next_s;

@@ -12,3 +12,6 @@ mod radicand;
 pub use field::Field;
 pub use formula::Formula;
 pub use quad::{Quad, Sign, TooWide};
+
+#[cfg(test)]
+mod tests;

@@ -2,11 +2,11 @@
 
 ghost use Rattle.std.specs.Prelude.{◌≡◌};
 ghost use Rattle.veech_cli.specs.Texts.{fault_line};
-ghost use Rattle.veech_cli.specs.Statuses.{status_of};
+ghost use Rattle.veech_cli.specs.Statuses.{status_of, refusal_of_reading, refusal_of_check};
 
 use super::Status;
+use super::check::CheckFault;
 use io_ends::ReadAll;
-use std::alloc::{AllocError, AllocFailed};
 
 /// Why a run has no output.
 #[derive(Clone, Copy, Debug, PartialEq, Eq)]
@@ -39,6 +39,29 @@ impl Refusal {
             Refusal::NotBuilt => b"fault file 30 0 NotBuilt\n",
             Refusal::ReadFault => b"fault read\n",
             Refusal::Memory => b"fault memory\n",
+        }
+    }
+}
+
+impl From<ReadAll> for Refusal {
+    ghost from_gives = { λ fault refusal. refusal ≡ refusal_of_reading fault };
+
+    fn from(fault: ReadAll) -> Refusal {
+        match fault {
+            ReadAll::Fault => Refusal::ReadFault,
+            ReadAll::TooLong => Refusal::NotBuilt,
+            ReadAll::Memory => Refusal::Memory,
+        }
+    }
+}
+
+impl From<CheckFault> for Refusal {
+    ghost from_gives = { λ fault refusal. refusal ≡ refusal_of_check fault };
+
+    fn from(fault: CheckFault) -> Refusal {
+        match fault {
+            CheckFault::NotBuilt => Refusal::NotBuilt,
+            CheckFault::Memory => Refusal::Memory,
         }
     }
 }

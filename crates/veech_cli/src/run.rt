@@ -1,14 +1,13 @@
 //! The top call.
 
-ghost use Rattle.std.specs.Prelude.{◌≡◌, ℕ, ◌≤◌, ◌⊎◌, List, IfSome, IfOk, IfErr, IsErr};
+ghost use Rattle.std.specs.Prelude.{◌≡◌, ℕ, ◌≤◌, ◌⊎◌, List, [], IfSome, IfOk, OnOk, IfErr, IsErrOf};
+ghost use Rattle.std.specs.Option.{option_map};
 ghost use Rattle.std.specs.declared.option.Option.{Option};
 ghost use Rattle.io_ends.specs.Ends.{Rose, given};
 ghost use Rattle.tri_core.specs.declared.half.Half.{Half};
 ghost use Rattle.veech_cli.specs.Commands.{Names, AreTaken};
-ghost use Rattle.veech_cli.specs.Statuses.{status_of};
 ghost use Rattle.veech_cli.specs.TriangleFiles.{FileOfTriangles, IsBuilt, IsNotBuilt};
-ghost use Rattle.veech_cli.specs.Texts.{fault_line};
-ghost use Rattle.veech_cli.specs.Runs.{Says, Settles, Delivers, IsInput, SpeaksOfInput};
+ghost use Rattle.veech_cli.specs.Runs.{Says, Concludes, Settles, Delivers, IsInput, IsRefusalOf, IsReadWhole, SpeaksOfInput};
 ghost use Rattle.veech_cli.specs.declared.status.Status.{Status as Ending};
 
 use super::check::check;
@@ -44,7 +43,8 @@ pub fn run_plain<S: Source, K: Sink>(
     ensures unread { ¬ (AreTaken words.now) → source.new ≡ source.old }
 
     // What is read: all of the input, or one byte past the limit, before anything is said of it.
-    ensures whole { SpeaksOfInput result → S.left source.new ≡ given 1048577 (S.left source.old) }
+    ensures all_read { result ≡ Status.Done → S.left source.new ≡ option_map (λ _. []) (S.left source.old) }
+    ensures read_whole { SpeaksOfInput result → IsReadWhole (S.left source.old) (S.left source.new) }
     ensures reads { (n : ℕ) × (n ≤ 1048577) × (S.left source.new ≡ given n (S.left source.old)) }
 
     // An end is blamed only where its count of faults rose.
@@ -78,7 +78,19 @@ fn answer<S: Source, K: Sink>(
     command: Command,
     source: &mut S,
     sink: &mut K,
-) -> Status {
+) -> Status
+    ensures outcome { (input : List ℕ) × (status : Ending) × (text : List ℕ)
+        × IsInput (S.left source.old) input
+        × Concludes command input status text
+        × Delivers status text result (K.taken sink.old) (K.taken sink.new) }
+    ensures all_read { result ≡ Status.Done → S.left source.new ≡ option_map (λ _. []) (S.left source.old) }
+    ensures read_whole { SpeaksOfInput result → IsReadWhole (S.left source.old) (S.left source.new) }
+    ensures reads { (n : ℕ) × (n ≤ 1048577) × (S.left source.new ≡ given n (S.left source.old)) }
+    ensures read_fault { result ≡ Status.ReadFault → Rose (S.faults source.old) (S.faults source.new) }
+    ensures write_fault { result ≡ Status.WriteFault → Rose (K.faults sink.old) (K.faults sink.new) }
+    ensures source_never_falls { S.faults source.old ≤ S.faults source.new }
+    ensures sink_never_falls { K.faults sink.old ≤ K.faults sink.new }
+{
     match settle(alloc, command, source) {
         Ok(text) => deliver(sink, Status::Done, text.as_slice()),
         Err(refusal) => deliver(sink, refusal.status(), refusal.line()),
@@ -90,7 +102,17 @@ fn settle<S: Source>(
     alloc: Global,
     command: Command,
     source: &mut S,
-) -> Result<Vec<u8>, Refusal> {
+) -> Result<Vec<u8>, Refusal>
+    ensures said { IfOk result (λ text. (input : List ℕ) × IsInput (S.left source.old) input
+        × Says command input Status.Done text.items) }
+    ensures refused { IfErr result (λ refusal. (input : List ℕ) × IsInput (S.left source.old) input
+        × IsRefusalOf command input refusal) }
+    ensures all_read { OnOk result (S.left source.new ≡ option_map (λ _. []) (S.left source.old)) }
+    ensures read_whole { IsErrOf result Refusal.NotBuilt → IsReadWhole (S.left source.old) (S.left source.new) }
+    ensures reads { (n : ℕ) × (n ≤ 1048577) × (S.left source.new ≡ given n (S.left source.old)) }
+    ensures read_fault { IsErrOf result Refusal.ReadFault → Rose (S.faults source.old) (S.faults source.new) }
+    ensures never_falls { S.faults source.old ≤ S.faults source.new }
+{
     let input = read_all(alloc, source, INPUT_LIMIT)?;
     match command {
         Command::Check => Ok(check(alloc, input.as_slice())?),
