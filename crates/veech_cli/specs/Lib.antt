@@ -10,6 +10,7 @@ pub use Rattle.io_ends.specs.Ends
 pub mod Commands
 pub mod TriangleFiles
 pub mod Contents
+pub mod Fronts
 pub mod Statuses
 pub mod Texts
 pub mod Runs
