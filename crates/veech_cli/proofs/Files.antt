@@ -1,12 +1,12 @@
 -- The text of a file, piece by piece, and the files that the bytes spell.
-use Rattle.std.proofs.Common.{◌≡◌, ◌≢◌, ℕ, zero, suc, ◌+◌, ◌<◌, ◌≤◌, List, [], ◌∷◌, ◌++◌, length, get_or, refl, ap, sym, ◌∙◌, subst, arith, append_assoc, codes, Option, Some, None, Bor, MatchOption}
-use Rattle.std.specs.List.{concat, flat_map, AllByRecursion}
+use Rattle.std.proofs.Common.{◌≡◌, ◌≢◌, ℕ, ◌<◌, ◌≤◌, List, [], ◌∷◌, ◌++◌, length, get_or, refl, ap, sym, ◌∙◌, subst, arith, append_assoc, codes, Option, Some, None, Bor, MatchOption}
+use Rattle.std.specs.List.{flat_map, AllByRecursion}
 use Rattle.std.proofs.lemmas.List.{length-append}
 use Rattle.plane.specs.Spelling.{natural_text, vector_text}
 use Rattle.veech_cli.specs.declared.triangle_file.Triangle.{Triangle}
 use Rattle.veech_cli.specs.declared.triangle_file.Glue.{Glue}
 use Rattle.veech_cli.specs.TriangleFiles.{FileOfTriangles, file_text, polygon_line, glue_line, HasSmallNumbers, NamesSides, IsReadable}
-use Rattle.veech_cli.specs.Fronts.{natural_then, field_then, vector_then, triangle_then, glue_then, lines_then, IsPast, Takes, Refuses, TakesLines, RefusesLines}
+use Rattle.veech_cli.specs.Fronts.{field_then, vector_then, triangle_then, glue_then, lines_then, IsPast, Takes, Refuses, TakesLines, RefusesLines}
 
 -- three texts, each ended by a byte, and the rest
 three_ended : (a b c rest : List ℕ) (x y z : ℕ) → (a ++ x ∷ (b ++ y ∷ (c ++ z ∷ []))) ++ rest ≡ a ++ x ∷ (b ++ y ∷ (c ++ z ∷ rest))
@@ -46,10 +46,10 @@ triangles_text file = lines_then (codes "polygon ") triangle_then file.triangles
 pub file_text_is : (file : FileOfTriangles) → file_text file ≡ field_then file.field (triangles_text file)
 file_text_is file =
     let glues : flat_map glue_line file.glues ++ codes "end\n" ≡ glues_text file.glues =
-        lines_text (codes "glue ") glue_then glue_line glue_line_then file.glues (codes "end\n") in
+    lines_text (codes "glue ") glue_then glue_line glue_line_then file.glues (codes "end\n") in
     let triangles : flat_map polygon_line file.triangles ++ (flat_map glue_line file.glues ++ codes "end\n") ≡ triangles_text file =
-        ap (λ (end : List ℕ). flat_map polygon_line file.triangles ++ end) glues
-        ∙ lines_text (codes "polygon ") triangle_then polygon_line polygon_line_then file.triangles (glues_text file.glues) in
+    ap (λ (end : List ℕ). flat_map polygon_line file.triangles ++ end) glues
+    ∙ lines_text (codes "polygon ") triangle_then polygon_line polygon_line_then file.triangles (glues_text file.glues) in
     ap (λ (end : List ℕ). codes "flat 1\nfield " ++ (natural_text file.field ++ 10 ∷ end)) triangles
 
 -- no polygon line stands where the glue lines begin
@@ -102,9 +102,9 @@ reads_triangles input bytes rest field ts reads takes =
     record {
       found = reads.found ∙ ap (λ (end : List ℕ). field_then field end) takes.found;
       only = λ file e.
-        let before = reads.only file e in
-        let lines = takes.only file.triangles (glues_text file.glues) (past_triangles file.glues) (sym before.1) in
-        (before.0, lines.0, lines.1);
+          let before = reads.only file e in
+          let lines = takes.only file.triangles (glues_text file.glues) (past_triangles file.glues) (sym before.1) in
+          (before.0, lines.0, lines.1);
     }
 
 -- from the glue lines behind the polygon lines
@@ -113,11 +113,11 @@ pub reads_glues : (n field : ℕ) (input bytes rest : List ℕ) (ts : List Trian
 reads_glues n field input bytes rest ts gs reads takes =
     record {
       found = reads.found
-        ∙ ap (λ (end : List ℕ). field_then field (lines_then (codes "polygon ") triangle_then ts end)) takes.found;
+          ∙ ap (λ (end : List ℕ). field_then field (lines_then (codes "polygon ") triangle_then ts end)) takes.found;
       only = λ file e.
-        let before = reads.only file e in
-        let lines = takes.only file.glues (codes "end\n") past_glues (sym before.2) in
-        (before.0, before.1, lines.0, lines.1);
+          let before = reads.only file e in
+          let lines = takes.only file.glues (codes "end\n") past_glues (sym before.2) in
+          (before.0, before.1, lines.0, lines.1);
     }
 
 -- with the end behind the glue lines the bytes spell the file

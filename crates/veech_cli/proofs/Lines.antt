@@ -1,5 +1,5 @@
 -- Lines that each begin with a word, read one after another.
-use Rattle.std.proofs.Common.{◌≡◌, ◌≢◌, List, [], ◌∷◌, ◌++◌, ℕ, refl, ap, sym, ◌∙◌, subst, append_assoc}
+use Rattle.std.proofs.Common.{◌≡◌, List, [], ◌∷◌, ◌++◌, ℕ, refl, ap, sym, ◌∙◌, subst, append_assoc}
 use Rattle.std.specs.List.{AllByRecursion}
 use Rattle.std.proofs.lemmas.List.{append-nil, append_cancel_left}
 use Rattle.veech_cli.specs.Fronts.{Takes, Refuses, TakesLines, RefusesLines, IsPast, lines_then}
@@ -9,7 +9,7 @@ pub record LinesSoFar {X : Type 0} (word : List ℕ) (line : X → List ℕ → 
   pub found : bytes ≡ lines_then word line xs rest
   pub fits : AllByRecursion Fits xs
   pub follows : (ys : List X) (other : List ℕ) → IsPast word other → bytes ≡ lines_then word line ys other
-    → (more : List X) × (ys ≡ xs ++ more) × (rest ≡ lines_then word line more other)
+      → (more : List X) × (ys ≡ xs ++ more) × (rest ≡ lines_then word line more other)
 
 -- lines, then further lines
 lines_then-append : {X : Type 0} (word : List ℕ) (line : X → List ℕ → List ℕ) (xs ys : List X) (rest : List ℕ)

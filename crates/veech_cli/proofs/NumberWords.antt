@@ -1,15 +1,12 @@
 -- A number or a vector, and the byte that ends it, taken off the front or refused.
-use Rattle.std.proofs.Common.{◌≡◌, ◌≢◌, ◌↔◌, ℕ, ◌+◌, ◌^◌, ◌<◌, ◌≤◌, List, [], ◌∷◌, ◌++◌, refl, ap, sym, ◌∙◌, subst, arith, inl, inr}
+use Rattle.std.proofs.Common.{◌≡◌, ◌↔◌, ℕ, ◌^◌, ◌<◌, List, ◌∷◌, ◌++◌, ap, sym, ◌∙◌, arith, inl, inr}
 use Rattle.std.proofs.lemmas.Bool.{cases_lt}
 use Rattle.plane.specs.declared.words.NaturalWord.{NaturalWord}
 use Rattle.plane.specs.declared.words.NaturalWord.TheVariants as natural_word
-use Rattle.plane.specs.declared.words.VectorWord.{VectorWord}
-use Rattle.plane.specs.declared.words.VectorWord.TheVariants as vector_word
-use Rattle.plane.specs.declared.vec2.Vec2.{Vec2}
-use Rattle.plane.specs.Spelling.{natural_text, vector_text}
-use Rattle.veech_cli.specs.Fronts.{SplitsAt, Takes, Refuses, natural_then, vector_then}
+use Rattle.plane.specs.Spelling.{natural_text}
+use Rattle.veech_cli.specs.Fronts.{SplitsAt, Takes, Refuses, natural_then}
 use Rattle.veech_cli.proofs.Splits.{one_split}
-use Rattle.veech_cli.proofs.Spelled.{natural_text_lacks, vector_text_lacks}
+use Rattle.veech_cli.proofs.Spelled.{natural_text_lacks}
 
 -- bytes that split at their first stop spell a number only by that split
 number_split : (stop n : ℕ) (bytes digits rest other : List ℕ) → stop < 48 → SplitsAt stop bytes digits rest
@@ -38,7 +35,7 @@ number_taken stop limit n bytes digits rest r small split value large is below =
       found = split.found ∙ ap (λ (text : List ℕ). text ++ stop ∷ rest) ((value n).0 is).0;
       fits = below;
       only = λ m other e. let parts = number_split stop m bytes digits rest other small split e in
-        (number_only digits r n m value large is parts.0, sym parts.1);
+          (number_only digits r n m value large is parts.0, sym parts.1);
     }
 
 -- any other number is refused

@@ -1,5 +1,5 @@
 -- A vector, and the byte that ends it, taken off the front or refused.
-use Rattle.std.proofs.Common.{◌≡◌, ◌≢◌, ◌↔◌, ◌⊎◌, ℕ, suc, ◌+◌, ◌^◌, ◌<◌, ◌≤◌, ℤ, pos, negsuc, List, [], ◌∷◌, ◌++◌, refl, ap, sym, ◌∙◌, subst, arith, rules, inl, inr, unsigned_abs}
+use Rattle.std.proofs.Common.{◌≡◌, ◌↔◌, ◌⊎◌, ℕ, ◌^◌, ◌<◌, ℤ, pos, negsuc, List, ◌∷◌, ◌++◌, ap, sym, ◌∙◌, arith, rules, inl, inr}
 use Rattle.std.specs.Int.{w128}
 use Rattle.std.proofs.lemmas.Bool.{cases_lt}
 use Rattle.std.proofs.lemmas.Int.{ints, fits_signed_from_abs}
@@ -75,7 +75,7 @@ vector_taken stop v bytes text rest r small split value large is s t =
       found = split.found ∙ ap (λ (front : List ℕ). front ++ stop ∷ rest) ((value v).0 is).0;
       fits = (s, t);
       only = λ w other e. let parts = vector_split stop w bytes text rest other small split e in
-        (vector_only text r v w value large is parts.0, sym parts.1);
+          (vector_only text r v w value large is parts.0, sym parts.1);
     }
 
 -- any other vector is refused

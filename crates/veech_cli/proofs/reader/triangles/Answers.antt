@@ -1,4 +1,4 @@
-use Rattle.std.proofs.Common.{◌≡◌, ◌++◌, arith, Some, None, codes}
+use Rattle.std.proofs.Common.{◌≡◌, arith, Some, None, codes}
 use Rattle.std.proofs.lemmas.Bool.Decides.{Decides-eqb}
 use Rattle.std.proofs.lemmas.Slice.Eq.{strip_prefix_is}
 use Rattle.std.proofs.lemmas.Result.{err_from_is_err_and}
@@ -13,8 +13,8 @@ lines-preserved c =
     let some : c.triangle.result ≡ Some (c.in_ok-next.next, c.in_ok-next.after) = grind arith in
     let taken = rw some at c.triangle.ensures in
     rw c.in_ok-push.ensures.items (
-        lines_more (codes "polygon ") triangle_then HasSmallNumbers c.args.bytes.now c.lines.triangles.items c.lines.rest.now
-        c.in-Some.line.now c.in_ok-next.next c.in_ok-next.after.now c.lines.invariant head taken)
+    lines_more (codes "polygon ") triangle_then HasSmallNumbers c.args.bytes.now c.lines.triangles.items c.lines.rest.now
+    c.in-Some.line.now c.in_ok-next.next c.in_ok-next.after.now c.lines.invariant head taken)
 
 pub returns : goal.returns
 returns c =
@@ -28,4 +28,4 @@ returns-in_err-next c =
     let none : c.triangle.result ≡ None = grind arith in
     let refuses = rw none at c.triangle.ensures in
     rw p.1 (λ refused. lines_refused (codes "polygon ") triangle_then HasSmallNumbers c.args.bytes.now c.lines.triangles.items c.lines.rest.now
-        c.in-Some.line.now c.lines.invariant head refuses)
+    c.in-Some.line.now c.lines.invariant head refuses)

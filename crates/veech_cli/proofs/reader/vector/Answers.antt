@@ -1,4 +1,4 @@
-use Rattle.std.proofs.Common.{◌≡◌, subst, sym}
+use Rattle.std.proofs.Common.{◌≡◌, subst}
 use Rattle.plane.specs.declared.vec2.Vec2.{Vec2}
 use Rattle.veech_cli.specs.TriangleFiles.{IsSmall}
 use Rattle.veech_cli.proofs.VectorWords.{vector_taken, vector_refused}
@@ -17,12 +17,12 @@ returns-in_default c =
     c.requires c.in_ok-text.ensures c.read_vector.ensures.value
     (λ k is small. elim c.in_default.branch [
       | in_default-via-in-Value+then-is_small+else-is_small-2 w ↦
-        let same : k ≡ w.in-Value.v = cc in
-        let yes = w.if-is_small-2.ensures.1 (subst (λ (v : Vec2). IsSmall v.t) same small.1) in
-        absurd cc
+          let same : k ≡ w.in-Value.v = cc in
+          let yes = w.if-is_small-2.ensures.1 (subst (λ (v : Vec2). IsSmall v.t) same small.1) in
+          absurd cc
       | in_default-via-in-Value+else-is_small w ↦
-        let same : k ≡ w.in-Value.v = cc in
-        let yes = w.if-is_small.ensures.1 (subst (λ (v : Vec2). IsSmall v.s) same small.0) in
-        absurd cc
+          let same : k ≡ w.in-Value.v = cc in
+          let yes = w.if-is_small.ensures.1 (subst (λ (v : Vec2). IsSmall v.s) same small.0) in
+          absurd cc
       | in_default-via-in_default w ↦ w.in_default.not-Value k is
     ])
