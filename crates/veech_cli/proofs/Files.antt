@@ -96,9 +96,9 @@ refused_field input read given none file e readable =
     refuses file.field (triangles_text file) (e ∙ file_text_is file) (omega (arith, readable.field))
 
 -- from the polygon lines behind the field
-pub reads_triangles : (input bytes rest : List ℕ) (field : ℕ) (ts : List Triangle) → ReadsField input field bytes
+pub reads_triangles : {input bytes rest : List ℕ} {field : ℕ} {ts : List Triangle} → ReadsField input field bytes
     → TakesLines (codes "polygon ") triangle_then HasSmallNumbers bytes ts rest → ReadsTriangles input field ts rest
-reads_triangles input bytes rest field ts reads takes =
+reads_triangles {field = field} reads takes =
     record {
       found = reads.found ∙ ap (λ (end : List ℕ). field_then field end) takes.found;
       only = λ file e.
@@ -108,9 +108,9 @@ reads_triangles input bytes rest field ts reads takes =
     }
 
 -- from the glue lines behind the polygon lines
-pub reads_glues : (n field : ℕ) (input bytes rest : List ℕ) (ts : List Triangle) (gs : List Glue) → ReadsTriangles input field ts bytes
+pub reads_glues : {n field : ℕ} {input bytes rest : List ℕ} {ts : List Triangle} {gs : List Glue} → ReadsTriangles input field ts bytes
     → TakesLines (codes "glue ") glue_then (NamesSides n) bytes gs rest → ReadsGlues input field ts gs rest
-reads_glues n field input bytes rest ts gs reads takes =
+reads_glues {field = field} {ts = ts} reads takes =
     record {
       found = reads.found
           ∙ ap (λ (end : List ℕ). field_then field (lines_then (codes "polygon ") triangle_then ts end)) takes.found;
@@ -121,9 +121,9 @@ reads_glues n field input bytes rest ts gs reads takes =
     }
 
 -- with the end behind the glue lines the bytes spell the file
-pub spells_file : (field : ℕ) (input bytes : List ℕ) (ts : List Triangle) (gs : List Glue) → ReadsGlues input field ts gs bytes → bytes ≡ codes "end\n"
+pub spells_file : {field : ℕ} {input bytes : List ℕ} {ts : List Triangle} {gs : List Glue} → ReadsGlues input field ts gs bytes → bytes ≡ codes "end\n"
     → input ≡ file_text record { field = field; triangles = ts; glues = gs }
-spells_file field input bytes ts gs reads end =
+spells_file {field = field} {ts = ts} {gs = gs} reads end =
     let file : FileOfTriangles = record { field = field; triangles = ts; glues = gs } in
     reads.found
     ∙ ap (λ (rest : List ℕ). field_then field (lines_then (codes "polygon ") triangle_then ts (lines_then (codes "glue ") glue_then gs rest))) end
@@ -138,26 +138,26 @@ same_file file field ts gs f t g =
     ∙ ap (λ (x : List Glue). let made : FileOfTriangles = record { field = field; triangles = ts; glues = x } in made) g
 
 -- and no other file
-pub only_file : (field : ℕ) (input bytes : List ℕ) (ts : List Triangle) (gs : List Glue) → ReadsGlues input field ts gs bytes
+pub only_file : {field : ℕ} {input bytes : List ℕ} {ts : List Triangle} {gs : List Glue} → ReadsGlues input field ts gs bytes
     → (file : FileOfTriangles) → input ≡ file_text file → file ≡ record { field = field; triangles = ts; glues = gs }
-only_file field input bytes ts gs reads file e =
+only_file {field = field} {ts = ts} {gs = gs} reads file e =
     let parts = reads.only file e in same_file file field ts gs parts.0 parts.1 parts.2
 
 -- without the end behind the glue lines the bytes spell no file
-pub refused_end : (field : ℕ) (input bytes : List ℕ) (ts : List Triangle) (gs : List Glue) → ReadsGlues input field ts gs bytes → bytes ≢ codes "end\n"
+pub refused_end : {field : ℕ} {input bytes : List ℕ} {ts : List Triangle} {gs : List Glue} → ReadsGlues input field ts gs bytes → bytes ≢ codes "end\n"
     → (file : FileOfTriangles) → input ≡ file_text file → ¬ (IsReadable file)
-refused_end field input bytes ts gs reads other file e readable = other (sym (reads.only file e).3)
+refused_end reads other file e readable = other (sym (reads.only file e).3)
 
 -- where the polygon lines are refused, the bytes spell no readable file
-pub refused_triangles : (field : ℕ) (input bytes : List ℕ) → ReadsField input field bytes
+pub refused_triangles : {field : ℕ} {input bytes : List ℕ} → ReadsField input field bytes
     → RefusesLines (codes "polygon ") triangle_then HasSmallNumbers bytes → (file : FileOfTriangles) → input ≡ file_text file → ¬ (IsReadable file)
-refused_triangles field input bytes reads refuses file e readable =
+refused_triangles reads refuses file e readable =
     refuses file.triangles (glues_text file.glues) (past_triangles file.glues) (sym (reads.only file e).1) readable.small
 
 -- nor where the glue lines are
-pub refused_glues : (n field : ℕ) (input bytes : List ℕ) (ts : List Triangle) → ReadsTriangles input field ts bytes → n ≡ length ts
+pub refused_glues : (n : ℕ) {field : ℕ} {input bytes : List ℕ} {ts : List Triangle} → ReadsTriangles input field ts bytes → n ≡ length ts
     → RefusesLines (codes "glue ") glue_then (NamesSides n) bytes → (file : FileOfTriangles) → input ≡ file_text file → ¬ (IsReadable file)
-refused_glues n field input bytes ts reads count refuses file e readable =
+refused_glues n reads count refuses file e readable =
     let parts = reads.only file e in
     let same : length file.triangles ≡ n = ap length parts.1 ∙ sym count in
     refuses file.glues (codes "end\n") past_glues (sym parts.2) (subst (λ (m : ℕ). AllByRecursion (NamesSides m) file.glues) same readable.there)
@@ -183,8 +183,8 @@ few_lines (t ∷ ts) rest =
     omega (arith, more, one)
 
 -- a file has no more polygon lines than bytes
-pub few_triangles : (field : ℕ) (input bytes : List ℕ) (ts : List Triangle) → ReadsTriangles input field ts bytes → length ts ≤ length input
-few_triangles field input bytes ts reads =
+pub few_triangles : {field : ℕ} {input bytes : List ℕ} {ts : List Triangle} → ReadsTriangles input field ts bytes → length ts ≤ length input
+few_triangles {field = field} {bytes = bytes} {ts = ts} reads =
     let rest : List ℕ = lines_then (codes "polygon ") triangle_then ts bytes in
     let whole = ap length reads.found in
     let behind = longer (natural_text field) rest 10 in

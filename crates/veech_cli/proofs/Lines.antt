@@ -32,9 +32,9 @@ pub lines_none : {X : Type 0} (word : List ℕ) (line : X → List ℕ → List 
 lines_none word line Fits bytes = record { found = refl; fits = tt; follows = λ ys other past e. (ys, refl, e) }
 
 -- one line more
-pub lines_more : {X : Type 0} (word : List ℕ) (line : X → List ℕ → List ℕ) (Fits : X → Type 0) (bytes : List ℕ) (xs : List X) (rest body : List ℕ) (x : X) (after : List ℕ)
+pub lines_more : {X : Type 0} {word : List ℕ} {line : X → List ℕ → List ℕ} {Fits : X → Type 0} {bytes rest body after : List ℕ} {xs : List X} {x : X}
     → LinesSoFar word line Fits bytes xs rest → rest ≡ word ++ body → Takes line Fits body x after → LinesSoFar word line Fits bytes (xs ++ x ∷ []) after
-lines_more {X} word line Fits bytes xs rest body x after so_far head takes =
+lines_more {X = X} {word = word} {line = line} {Fits = Fits} {rest = rest} {body = body} {after = after} {xs = xs} {x = x} so_far head takes =
     record {
       found = so_far.found ∙ ap (lines_then word line xs) (head ∙ ap (λ (end : List ℕ). word ++ end) takes.found) ∙ sym (lines_then-append word line xs (x ∷ []) after);
       fits = all_both Fits xs (x ∷ []) so_far.fits (takes.fits, tt);
@@ -49,9 +49,9 @@ lines_more {X} word line Fits bytes xs rest body x after so_far head takes =
         (more, same ∙ ap (λ (z : X). xs ++ z ∷ more) one.0 ∙ sym (append_assoc xs (x ∷ []) more), sym one.1)
 
 -- behind the last line
-pub lines_end : {X : Type 0} (word : List ℕ) (line : X → List ℕ → List ℕ) (Fits : X → Type 0) (bytes : List ℕ) (xs : List X) (rest : List ℕ)
+pub lines_end : {X : Type 0} {word : List ℕ} {line : X → List ℕ → List ℕ} {Fits : X → Type 0} {bytes rest : List ℕ} {xs : List X}
     → LinesSoFar word line Fits bytes xs rest → IsPast word rest → TakesLines word line Fits bytes xs rest
-lines_end {X} word line Fits bytes xs rest so_far past =
+lines_end {X = X} {word = word} {line = line} {rest = rest} {xs = xs} so_far past =
     record {
       found = so_far.found;
       fits = so_far.fits;
@@ -64,9 +64,9 @@ lines_end {X} word line Fits bytes xs rest so_far past =
     step (y ∷ more) ys other same e = absurd (past (line y (lines_then word line more other)) e)
 
 -- a line that is refused
-pub lines_refused : {X : Type 0} (word : List ℕ) (line : X → List ℕ → List ℕ) (Fits : X → Type 0) (bytes : List ℕ) (xs : List X) (rest body : List ℕ)
+pub lines_refused : {X : Type 0} {word : List ℕ} {line : X → List ℕ → List ℕ} {Fits : X → Type 0} {bytes rest : List ℕ} {xs : List X} (body : List ℕ)
     → LinesSoFar word line Fits bytes xs rest → rest ≡ word ++ body → Refuses line Fits body → RefusesLines word line Fits bytes
-lines_refused {X} word line Fits bytes xs rest body so_far head refuses ys other past e fits =
+lines_refused {X = X} {word = word} {line = line} {Fits = Fits} {rest = rest} {xs = xs} body so_far head refuses ys other past e fits =
     let before = so_far.follows ys other past e in
     step before.0 before.2 (all_rest Fits xs before.0 (subst (AllByRecursion Fits) before.1 fits))
   where

@@ -26,11 +26,11 @@ number_only word r n m value large is e =
     ]
 
 -- a number below the limit is taken
-pub number_taken : (stop limit n : ℕ) (bytes digits rest : List ℕ) (r : NaturalWord) → stop < 48 → SplitsAt stop bytes digits rest
+pub number_taken : {stop n : ℕ} (limit : ℕ) {bytes digits rest : List ℕ} {r : NaturalWord} → stop < 48 → SplitsAt stop bytes digits rest
     → ((k : ℕ) → (r ≡ natural_word.Value k) ↔ ((digits ≡ natural_text k) × (k < 2 ^ 128)))
     → ((r ≡ natural_word.Large) ↔ ((k : ℕ) × (digits ≡ natural_text k) × ¬ (k < 2 ^ 128)))
     → r ≡ natural_word.Value n → n < limit → Takes (natural_then stop) (λ k. k < limit) bytes n rest
-number_taken stop limit n bytes digits rest r small split value large is below =
+number_taken {stop = stop} {n = n} limit {bytes = bytes} {digits = digits} {rest = rest} {r = r} small split value large is below =
     record {
       found = split.found ∙ ap (λ (text : List ℕ). text ++ stop ∷ rest) ((value n).0 is).0;
       fits = below;
@@ -39,9 +39,9 @@ number_taken stop limit n bytes digits rest r small split value large is below =
     }
 
 -- any other number is refused
-pub number_refused : (stop limit : ℕ) (bytes digits rest : List ℕ) (r : NaturalWord) → stop < 48 → limit < 2 ^ 32 → SplitsAt stop bytes digits rest
+pub number_refused : {stop : ℕ} (limit : ℕ) {bytes digits rest : List ℕ} {r : NaturalWord} → stop < 48 → limit < 2 ^ 32 → SplitsAt stop bytes digits rest
     → ((k : ℕ) → (r ≡ natural_word.Value k) ↔ ((digits ≡ natural_text k) × (k < 2 ^ 128)))
     → ((k : ℕ) → r ≡ natural_word.Value k → ¬ (k < limit)) → Refuses (natural_then stop) (λ k. k < limit) bytes
-number_refused stop limit bytes digits rest r small wide split value none n other e below =
+number_refused {stop = stop} limit {bytes = bytes} {digits = digits} {rest = rest} small wide split value none n other e below =
     let parts = number_split stop n bytes digits rest other small split e in
     none n ((value n).1 (parts.0, omega arith)) below

@@ -65,12 +65,12 @@ vector_only word r v w value large is e =
     ]
 
 -- a vector of small numbers is taken
-pub vector_taken : (stop : ℕ) (v : Vec2) (bytes text rest : List ℕ) (r : VectorWord) → stop < 43 → SplitsAt stop bytes text rest
+pub vector_taken : {stop : ℕ} {v : Vec2} {bytes text rest : List ℕ} {r : VectorWord} → stop < 43 → SplitsAt stop bytes text rest
     → ((k : Vec2) → (r ≡ vector_word.Value k) ↔ ((text ≡ vector_text k) × PartsFit k.s × PartsFit k.t))
     → ((r ≡ vector_word.Large) ↔ ((k : Vec2) × (text ≡ vector_text k) × ¬ (PartsFit k.s × PartsFit k.t)))
     → r ≡ vector_word.Value v → IsSmall v.s → IsSmall v.t
     → Takes (vector_then stop) (λ w. IsSmall w.s × IsSmall w.t) bytes v rest
-vector_taken stop v bytes text rest r small split value large is s t =
+vector_taken {stop = stop} {v = v} {bytes = bytes} {text = text} {rest = rest} {r = r} small split value large is s t =
     record {
       found = split.found ∙ ap (λ (front : List ℕ). front ++ stop ∷ rest) ((value v).0 is).0;
       fits = (s, t);
@@ -79,10 +79,10 @@ vector_taken stop v bytes text rest r small split value large is s t =
     }
 
 -- any other vector is refused
-pub vector_refused : (stop : ℕ) (bytes text rest : List ℕ) (r : VectorWord) → stop < 43 → SplitsAt stop bytes text rest
+pub vector_refused : {stop : ℕ} {bytes text rest : List ℕ} {r : VectorWord} → stop < 43 → SplitsAt stop bytes text rest
     → ((k : Vec2) → (r ≡ vector_word.Value k) ↔ ((text ≡ vector_text k) × PartsFit k.s × PartsFit k.t))
     → ((k : Vec2) → r ≡ vector_word.Value k → ¬ (IsSmall k.s × IsSmall k.t))
     → Refuses (vector_then stop) (λ w. IsSmall w.s × IsSmall w.t) bytes
-vector_refused stop bytes text rest r small split value none v other e fits =
+vector_refused {stop = stop} {bytes = bytes} {text = text} {rest = rest} small split value none v other e fits =
     let parts = vector_split stop v bytes text rest other small split e in
     none v ((value v).1 (parts.0, small_fits v.s fits.0, small_fits v.t fits.1)) fits

@@ -5,13 +5,11 @@ use Rattle.veech_cli.proofs.reader.number.Goals.{in_default-via-in-Value+else-n-
 
 pub returns-in-Value : goal.returns-in-Value
 returns-in-Value c =
-    number_taken c.args.stop c.args.limit c.in-Value.n c.args.bytes.now c.in_ok-digits.digits.now c.in_ok-digits.rest.now c.read_natural.result
-    c.requires c.in_ok-digits.ensures c.read_natural.ensures.value c.read_natural.ensures.large c.in-Value.is (omega (arith, c.from.ensures))
+    number_taken c.args.limit c.requires c.in_ok-digits.ensures c.read_natural.ensures.value c.read_natural.ensures.large c.in-Value.is (omega (arith, c.from.ensures))
 
 pub returns-in_default : goal.returns-in_default
 returns-in_default c =
-    number_refused c.args.stop c.args.limit c.args.bytes.now c.in_ok-digits.digits.now c.in_ok-digits.rest.now c.read_natural.result
-    c.requires (omega arith) c.in_ok-digits.ensures c.read_natural.ensures.value
+    number_refused c.args.limit c.requires (omega arith) c.in_ok-digits.ensures c.read_natural.ensures.value
     (λ k is below. elim c.in_default.branch [
       | in_default-via-in-Value+else-n-from w ↦ let same : w.in-Value.n ≡ k = cc in omega (arith, w.from.ensures)
       | in_default-via-in_default w ↦ w.in_default.not-Value k is

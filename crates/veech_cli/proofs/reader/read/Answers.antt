@@ -13,13 +13,13 @@ returns-in_err-triangles-clause-refused c =
     let field = reads_field c.in_ok-field.field c.args.input.now c.field.result c.in_ok-field.bytes c.field.ensures (grind arith) in
     λ err. let refused = rw p.1 at err in
     let fault : c.in_err-triangles.field-0.0 ≡ NotBuilt = cc in
-    refused_triangles c.in_ok-field.field c.args.input.now c.in_ok-field.bytes.now field (c.in_err-triangles.ensures fault)
+    refused_triangles field (c.in_err-triangles.ensures fault)
 
 pub overflow_cast-len : goal.overflow_cast-len
 overflow_cast-len c =
     let field = reads_field c.in_ok-field.field c.args.input.now c.field.result c.in_ok-field.bytes c.field.ensures (grind arith) in
-    let triangles = reads_triangles c.args.input.now c.in_ok-field.bytes.now c.in_ok-triangles.bytes.now c.in_ok-field.field c.in_ok-triangles.triangles.items field c.in_ok-triangles.ensures in
-    let few = few_triangles c.in_ok-field.field c.args.input.now c.in_ok-triangles.bytes.now c.in_ok-triangles.triangles.items triangles in
+    let triangles = reads_triangles field c.in_ok-triangles.ensures in
+    let few = few_triangles triangles in
     let count : c.len.result ≡ length c.in_ok-triangles.triangles.items = search rules in
     omega arith
 
@@ -27,28 +27,28 @@ pub returns-in_err-glues-clause-refused : goal.returns-in_err-glues-clause-refus
 returns-in_err-glues-clause-refused c =
     let p = err_from_is_err_and c.from_residual-in_err-glues.result c.from_residual-in_err-glues.ensures.1 in
     let field = reads_field c.in_ok-field.field c.args.input.now c.field.result c.in_ok-field.bytes c.field.ensures (grind arith) in
-    let triangles = reads_triangles c.args.input.now c.in_ok-field.bytes.now c.in_ok-triangles.bytes.now c.in_ok-field.field c.in_ok-triangles.triangles.items field c.in_ok-triangles.ensures in
+    let triangles = reads_triangles field c.in_ok-triangles.ensures in
     λ err. let refused = rw p.1 at err in
     let fault : c.in_err-glues.field-0.0 ≡ NotBuilt = cc in
-    refused_glues c.len.result c.in_ok-field.field c.args.input.now c.in_ok-triangles.bytes.now c.in_ok-triangles.triangles.items triangles (search rules) (c.in_err-glues.ensures fault)
+    refused_glues c.len.result triangles (search rules) (c.in_err-glues.ensures fault)
 
 pub returns-then-ne-clause-refused : goal.returns-then-ne-clause-refused
 returns-then-ne-clause-refused c =
     let field = reads_field c.in_ok-field.field c.args.input.now c.field.result c.in_ok-field.bytes c.field.ensures (grind arith) in
-    let triangles = reads_triangles c.args.input.now c.in_ok-field.bytes.now c.in_ok-triangles.bytes.now c.in_ok-field.field c.in_ok-triangles.triangles.items field c.in_ok-triangles.ensures in
-    let glues = reads_glues c.len.result c.in_ok-field.field c.args.input.now c.in_ok-triangles.bytes.now c.in_ok-glues.bytes.now c.in_ok-triangles.triangles.items c.in_ok-glues.glues.items triangles c.in_ok-glues.ensures in
-    λ err. refused_end c.in_ok-field.field c.args.input.now c.in_ok-glues.bytes.now c.in_ok-triangles.triangles.items c.in_ok-glues.glues.items glues (search rules)
+    let triangles = reads_triangles field c.in_ok-triangles.ensures in
+    let glues = reads_glues triangles c.in_ok-glues.ensures in
+    λ err. refused_end glues (search rules)
 
 pub returns-clause-spelled : goal.returns-clause-spelled
 returns-clause-spelled c =
     let field = reads_field c.in_ok-field.field c.args.input.now c.field.result c.in_ok-field.bytes c.field.ensures (grind arith) in
-    let triangles = reads_triangles c.args.input.now c.in_ok-field.bytes.now c.in_ok-triangles.bytes.now c.in_ok-field.field c.in_ok-triangles.triangles.items field c.in_ok-triangles.ensures in
-    let glues = reads_glues c.len.result c.in_ok-field.field c.args.input.now c.in_ok-triangles.bytes.now c.in_ok-glues.bytes.now c.in_ok-triangles.triangles.items c.in_ok-glues.glues.items triangles c.in_ok-glues.ensures in
-    spells_file c.in_ok-field.field c.args.input.now c.in_ok-glues.bytes.now c.in_ok-triangles.triangles.items c.in_ok-glues.glues.items glues (search rules)
+    let triangles = reads_triangles field c.in_ok-triangles.ensures in
+    let glues = reads_glues triangles c.in_ok-glues.ensures in
+    spells_file glues (search rules)
 
 pub returns-clause-only : goal.returns-clause-only
 returns-clause-only c =
     let field = reads_field c.in_ok-field.field c.args.input.now c.field.result c.in_ok-field.bytes c.field.ensures (grind arith) in
-    let triangles = reads_triangles c.args.input.now c.in_ok-field.bytes.now c.in_ok-triangles.bytes.now c.in_ok-field.field c.in_ok-triangles.triangles.items field c.in_ok-triangles.ensures in
-    let glues = reads_glues c.len.result c.in_ok-field.field c.args.input.now c.in_ok-triangles.bytes.now c.in_ok-glues.bytes.now c.in_ok-triangles.triangles.items c.in_ok-glues.glues.items triangles c.in_ok-glues.ensures in
-    only_file c.in_ok-field.field c.args.input.now c.in_ok-glues.bytes.now c.in_ok-triangles.triangles.items c.in_ok-glues.glues.items glues
+    let triangles = reads_triangles field c.in_ok-triangles.ensures in
+    let glues = reads_glues triangles c.in_ok-glues.ensures in
+    only_file glues

@@ -7,14 +7,12 @@ use Rattle.veech_cli.proofs.reader.vector.Goals.{in_default-via-in-Value+then-is
 
 pub returns-in-Value : goal.returns-in-Value
 returns-in-Value c =
-    vector_taken c.args.stop c.in-Value.v c.args.bytes.now c.in_ok-text.text.now c.in_ok-text.rest.now c.read_vector.result
-    c.requires c.in_ok-text.ensures c.read_vector.ensures.value c.read_vector.ensures.large c.in-Value.is
+    vector_taken c.requires c.in_ok-text.ensures c.read_vector.ensures.value c.read_vector.ensures.large c.in-Value.is
     (c.is_small.ensures.0 c.if-is_small.true) (c.is_small-then-is_small.ensures.0 c.if-is_small-2.true)
 
 pub returns-in_default : goal.returns-in_default
 returns-in_default c =
-    vector_refused c.args.stop c.args.bytes.now c.in_ok-text.text.now c.in_ok-text.rest.now c.read_vector.result
-    c.requires c.in_ok-text.ensures c.read_vector.ensures.value
+    vector_refused c.requires c.in_ok-text.ensures c.read_vector.ensures.value
     (λ k is small. elim c.in_default.branch [
       | in_default-via-in-Value+then-is_small+else-is_small-2 w ↦
           let same : k ≡ w.in-Value.v = cc in
