@@ -5,3 +5,9 @@ pub mod Narrow
 pub mod Outcomes
 pub mod Tables
 pub mod Twins
+pub mod Splits
+pub mod Spelled
+pub mod NumberWords
+pub mod VectorWords
+pub mod Lines
+pub mod Files

@@ -12,6 +12,7 @@ pub mod Commands
 pub mod TriangleFiles
 pub mod Contents
 pub mod Pairings
+pub mod Fronts
 pub mod Statuses
 pub mod Texts
 pub mod Runs
