@@ -22,9 +22,12 @@ triangles_within (t ∷ ts) = omega (arith, triangles_within ts, length-append (
 -- so a text has no more polygon lines than bytes
 pub no_more_triangles : (file : FileOfTriangles) → length file.triangles ≤ length (file_text file)
 no_more_triangles file =
-    omega (arith, triangles_within file.triangles,
-    length-append (natural_text file.field) (10 ∷ (flat_map polygon_line file.triangles ++ (flat_map glue_line file.glues ++ (101 ∷ 110 ∷ 100 ∷ 10 ∷ [])))),
-    length-append (flat_map polygon_line file.triangles) (flat_map glue_line file.glues ++ (101 ∷ 110 ∷ 100 ∷ 10 ∷ [])))
+    omega (
+      arith,
+      triangles_within file.triangles,
+      length-append (natural_text file.field) (10 ∷ (flat_map polygon_line file.triangles ++ (flat_map glue_line file.glues ++ (101 ∷ 110 ∷ 100 ∷ 10 ∷ [])))),
+      length-append (flat_map polygon_line file.triangles) (flat_map glue_line file.glues ++ (101 ∷ 110 ∷ 100 ∷ 10 ∷ [])),
+    )
 
 -- an input that spells one file alone isn't built where that file builds nothing
 pub not_built_by : (input : List ℕ) (file : FileOfTriangles) → ((other : FileOfTriangles) → input ≡ file_text other → other ≡ file) → ((halves : List Half) → ¬ (Builds file halves)) → IsNotBuilt input

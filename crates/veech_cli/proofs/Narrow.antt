@@ -54,13 +54,25 @@ module _ (d : ℕ) (field : d ≤ 1000) where
   product_fits : (x y : Quad) → PartsAtMost 100000 x → PartsAtMost 100000 y → AllFit (product_steps d x y)
   product_fits x y h k = (
     fits (100000 * 100000) _ (at_most_product 100000 100000 x.a y.a h.0 k.0) (omega arith),
-    (fits (100000 * 100000) _ (at_most_product 100000 100000 x.b y.b h.1 k.1) (omega arith),
-    (fits (1000 * (100000 * 100000)) _ (scaled x y h k) (omega arith),
-    (fits (2 ^ 44) _ (product_at_most x y h k).0 (omega arith),
-    (fits (100000 * 100000) _ (at_most_product 100000 100000 x.a y.b h.0 k.1) (omega arith),
-    (fits (100000 * 100000) _ (at_most_product 100000 100000 x.b y.a h.1 k.0) (omega arith),
-    (fits (2 ^ 44) _ (product_at_most x y h k).1 (omega arith),
-    tt)))))),
+    (
+      fits (100000 * 100000) _ (at_most_product 100000 100000 x.b y.b h.1 k.1) (omega arith),
+      (
+        fits (1000 * (100000 * 100000)) _ (scaled x y h k) (omega arith),
+        (
+          fits (2 ^ 44) _ (product_at_most x y h k).0 (omega arith),
+          (
+            fits (100000 * 100000) _ (at_most_product 100000 100000 x.a y.b h.0 k.1) (omega arith),
+            (
+              fits (100000 * 100000) _ (at_most_product 100000 100000 x.b y.a h.1 k.0) (omega arith),
+              (
+                fits (2 ^ 44) _ (product_at_most x y h k).1 (omega arith),
+                tt,
+              ),
+            ),
+          ),
+        ),
+      ),
+    ),
   )
 
   -- both coordinates are small

@@ -14,3 +14,6 @@ mod words;
 pub use run::run_plain;
 pub use status::{Status, status_number};
 pub use words::WordList;
+
+#[cfg(test)]
+mod tests;

@@ -59,12 +59,12 @@ pub fn run_plain<S: Source, K: Sink>(
         → ¬ (Rose (S.faults source.old) (S.faults source.new))
         → ¬ (Rose (K.faults sink.old) (K.faults sink.new))
         → IfSome (S.left source.old) (λ input. (file : FileOfTriangles) (halves : List Half)
-            → IsBuilt input file halves → (result ≡ Status.Done) ⊎ (result ≡ Status.Memory)) }
+        → IsBuilt input file halves → (result ≡ Status.Done) ⊎ (result ≡ Status.Memory)) }
     ensures not_built { Names words.now Command.Check
         → ¬ (Rose (S.faults source.old) (S.faults source.new))
         → ¬ (Rose (K.faults sink.old) (K.faults sink.new))
         → IfSome (S.left source.old) (λ input. IsNotBuilt input
-            → (result ≡ Status.File 30 0) ⊎ (result ≡ Status.Memory)) }
+        → (result ≡ Status.File 30 0) ⊎ (result ≡ Status.Memory)) }
 {
     match command_of(words) {
         Some(command) => answer(alloc, command, source, sink),
@@ -98,11 +98,7 @@ fn answer<S: Source, K: Sink>(
 }
 
 /// What the command writes for the input of the source, or why there is none.
-fn settle<S: Source>(
-    alloc: Global,
-    command: Command,
-    source: &mut S,
-) -> Result<Vec<u8>, Refusal>
+fn settle<S: Source>(alloc: Global, command: Command, source: &mut S) -> Result<Vec<u8>, Refusal>
     ensures said { IfOk result (λ text. (input : List ℕ) × IsInput (S.left source.old) input
         × Says command input Status.Done text.items) }
     ensures refused { IfErr result (λ refusal. (input : List ℕ) × IsInput (S.left source.old) input

@@ -10,8 +10,8 @@ loop-h-preserved c =
     let p = λ (h : ℕ). nat_lt h (twin_at halves h) in
     let less : c.loop-h.h < length halves = omega arith in
     elim c.if-is_edge.branch [
-      then-is_edge w ↦ (one_more p (length halves) c.loop-h.h less c.loop-h.edges _ c.loop-h.invariant.0 (is_less c.is_edge.result c.loop-h.h (length halves) _ w.if-is_edge.true c.is_edge.ensures) w.edges-is, omega arith)
-    | else-is_edge w ↦ (no_more p (length halves) c.loop-h.h less c.loop-h.edges _ c.loop-h.invariant.0 (is_not_less c.is_edge.result c.loop-h.h (length halves) _ w.if-is_edge.false c.is_edge.ensures less) w.edges-is, omega arith)
+      | then-is_edge w ↦ (one_more p (length halves) c.loop-h.h less c.loop-h.edges _ c.loop-h.invariant.0 (is_less c.is_edge.result c.loop-h.h (length halves) _ w.if-is_edge.true c.is_edge.ensures) w.edges-is, omega arith)
+      | else-is_edge w ↦ (no_more p (length halves) c.loop-h.h less c.loop-h.edges _ c.loop-h.invariant.0 (is_not_less c.is_edge.result c.loop-h.h (length halves) _ w.if-is_edge.false c.is_edge.ensures less) w.edges-is, omega arith)
     ]
 
 pub returns : goal.returns
