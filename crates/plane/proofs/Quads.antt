@@ -1,5 +1,5 @@
 -- The texts of K-integers: the first sign behind the first byte begins the second part.
-use Rattle.std.proofs.Common.{◌≡◌, ◌≢◌, ◌↔◌, ℕ, zero, suc, ◌+◌, ◌-◌, ◌<◌, ◌≤◌, ℤ, pos, negsuc, List, [], ◌∷◌, ◌++◌, length, get_or, take, drop, refl, ap, sym, ◌∙◌, subst, inl, inr, ◌⊎◌, arith}
+use Rattle.std.proofs.Common.{◌≡◌, ◌≢◌, ◌↔◌, ℕ, zero, suc, ◌+◌, ◌<◌, ℤ, pos, negsuc, List, ◌++◌, length, get_or, take, drop, refl, ap, sym, ◌∙◌, subst, inl, inr, arith}
 use Rattle.std.specs.Int.{IsInRange}
 use Rattle.std.proofs.lemmas.List.{length-append, get_or_append_left, get_or-append-add, take_at, drop_at, take-append-drop}
 use Rattle.quad_field.specs.declared.quad.Quad.{Quad}
@@ -7,7 +7,7 @@ use Rattle.quad_field.specs.Quads.{quad}
 use Rattle.quad_field.specs.Width.{FitsI128, PartsFit}
 use Rattle.plane.specs.declared.words.QuadWord.{QuadWord}
 use Rattle.plane.specs.declared.words.QuadWord.TheVariants.{Value, Large, Not}
-use Rattle.plane.specs.Spelling.{natural_text, whole_text, root_text, quad_text}
+use Rattle.plane.specs.Spelling.{whole_text, root_text, quad_text}
 use Rattle.plane.specs.Reading.{IsSign, EndsAtSign, IsQuadRead}
 use Rattle.plane.proofs.Naturals.{natural_text_some, natural_text_at}
 use Rattle.plane.proofs.Wholes.{whole_injective, root_injective, root_shape}
