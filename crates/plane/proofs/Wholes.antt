@@ -170,9 +170,6 @@ root_shape (pos zero) some = absurd (omega arith)
 root_shape (pos (suc n)) some = signed_shape 43 (suc n) (inl refl)
 root_shape (negsuc n) some = signed_shape 45 (suc n) (inr refl)
 
-pub not_root : (word : List ℕ) → 0 < length word → ¬ (IsRootShaped word) → (n : ℤ) → word ≢ root_text n
-not_root word some refuted n e = refuted (subst IsRootShaped (sym e) (root_shape n (subst (λ text. 0 < length text) e some)))
-
 -- one text a number
 pub whole_injective : (m n : ℤ) → whole_text m ≡ whole_text n → m ≡ n
 whole_injective (pos m) (pos n) e = ap pos (natural_text_injective m n e)
