@@ -1,5 +1,5 @@
 -- The texts of K-integers: the first sign behind the first byte begins the second part.
-use Rattle.std.proofs.Common.{◌≡◌, ◌≢◌, ◌↔◌, ℕ, zero, suc, ◌+◌, ◌-◌, ◌<◌, ◌≤◌, ℤ, pos, negsuc, List, [], ◌∷◌, ◌++◌, length, get_or, take, drop, refl, ap, sym, ◌∙◌, subst, inl, inr, ◌⊎◌, arith}
+use Rattle.std.proofs.Common.{◌≡◌, ◌≢◌, ◌↔◌, ℕ, zero, suc, ◌+◌, ◌<◌, ℤ, pos, negsuc, List, ◌++◌, length, get_or, take, drop, refl, ap, sym, ◌∙◌, subst, inl, inr, arith}
 use Rattle.std.specs.Int.{IsInRange}
 use Rattle.std.proofs.lemmas.List.{length-append, get_or_append_left, get_or-append-add, take_at, drop_at, take-append-drop}
 use Rattle.quad_field.specs.declared.quad.Quad.{Quad}
@@ -7,10 +7,10 @@ use Rattle.quad_field.specs.Quads.{quad}
 use Rattle.quad_field.specs.Width.{FitsI128, PartsFit}
 use Rattle.plane.specs.declared.words.QuadWord.{QuadWord}
 use Rattle.plane.specs.declared.words.QuadWord.TheVariants.{Value, Large, Not}
-use Rattle.plane.specs.Spelling.{natural_text, whole_text, root_text, quad_text}
+use Rattle.plane.specs.Spelling.{whole_text, root_text, quad_text}
 use Rattle.plane.specs.Reading.{IsSign, EndsAtSign, IsQuadRead}
 use Rattle.plane.proofs.Naturals.{natural_text_some, natural_text_at}
-use Rattle.plane.proofs.Wholes.{whole_injective, root_injective, root_shape}
+use Rattle.plane.proofs.Wholes.{whole_injective, root_injective, root_sign}
 
 whole_text_some : (n : ℤ) → 0 < length (whole_text n)
 whole_text_some (pos n) = natural_text_some n
@@ -34,9 +34,9 @@ quad_ends x =
       before = λ k some below. rw (get_or_append_left (whole_text x.a) (root_text x.b) 0 k below) (digit_no_sign _ (whole_text_at x.a k some below));
       sign = λ below.
           let first = get_or-append-add (whole_text x.a) (root_text x.b) 0 0 in
-          let shape = root_shape x.b (omega arith) in
+          let sign = root_sign x.b (omega arith) in
           let place : length (whole_text x.a) + 0 ≡ length (whole_text x.a) = omega arith in
-          subst IsSign (sym (rw (place) at first)) shape.sign;
+          subst IsSign (sym (rw (place) at first)) sign;
     }
 
 no_earlier : (word : List ℕ) (m n : ℕ) → EndsAtSign word m → EndsAtSign word n → ¬ (m < n)

@@ -1,7 +1,7 @@
 -- The texts of vectors: one comma, between the coordinates.
-use Rattle.std.proofs.Common.{◌≡◌, ◌≢◌, ◌↔◌, ℕ, zero, suc, ◌+◌, ◌-◌, ◌<◌, ◌≤◌, ℤ, pos, negsuc, List, [], ◌∷◌, ◌++◌, length, get_or, take, drop, refl, ap, sym, ◌∙◌, subst, inl, inr, ◌⊎◌, arith, append_assoc}
+use Rattle.std.proofs.Common.{◌≡◌, ◌≢◌, ◌↔◌, ℕ, zero, suc, ◌+◌, ◌<◌, ℤ, pos, negsuc, List, [], ◌∷◌, ◌++◌, length, get_or, take, drop, refl, ap, sym, ◌∙◌, subst, arith, append_assoc}
 use Rattle.std.specs.Int.{IsInRange}
-use Rattle.std.proofs.lemmas.List.{length-append, get_or_append_left, get_or-append-add, get_or_at, get_or_past, take_at, drop_at, take-append-drop, drop-drop, drop_more}
+use Rattle.std.proofs.lemmas.List.{length-append, get_or_append_left, get_or_at, get_or_past, take_at, drop_at, take-append-drop, drop_more}
 use Rattle.quad_field.specs.declared.quad.Quad.{Quad}
 use Rattle.quad_field.specs.Width.{PartsFit}
 use Rattle.plane.specs.declared.vec2.Vec2.{Vec2}

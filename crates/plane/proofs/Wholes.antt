@@ -1,8 +1,8 @@
 -- The texts of whole numbers and of multiples of √D, and what is read from them.
-use Rattle.std.proofs.Common.{◌≡◌, ◌≢◌, ℕ, zero, suc, ◌+◌, ◌-◌, ◌^◌, ◌<◌, ◌≤◌, ℤ, pos, negsuc, List, [], ◌∷◌, ◌++◌, length, get_or, take, drop, refl, ap, sym, ◌∙◌, subst, inl, inr, ◌⊎◌, arith}
+use Rattle.std.proofs.Common.{◌≡◌, ◌≢◌, ℕ, zero, suc, ◌+◌, ◌-◌, ◌^◌, ◌<◌, ◌≤◌, ℤ, pos, negsuc, List, [], ◌∷◌, ◌++◌, length, get_or, take, drop, refl, ap, sym, ◌∙◌, subst, inl, inr, arith}
 use Rattle.std.specs.Int.{IsInRange}
 use Rattle.std.specs.Fmt.{signed_decimal}
-use Rattle.std.proofs.lemmas.List.{length-append, get_or-append-add, take_more, take_all, append_cancel_right}
+use Rattle.std.proofs.lemmas.List.{take_more, take_all, append_cancel_right}
 use Rattle.quad_field.specs.Width.{FitsI128}
 use Rattle.plane.specs.declared.words.WholeWord.{WholeWord}
 use Rattle.plane.specs.declared.words.WholeWord.TheVariants.{Value, Large, Not}
@@ -151,27 +151,11 @@ root_minus word last r long some root sign read =
     same_reading (IsNegative digits) (λ n. word ≡ root_text n)
     (λ n is. shape ∙ root_minus_to digits n is) (λ n e. root_minus_back digits n (sym shape ∙ e)) r read
 
--- what a multiple of √D looks like where it isn't 0
-pub record IsRootShaped (word : List ℕ) : Type 0 where
-  pub long : 1 < length word
-  pub sign : IsSign (get_or word 0 0)
-  pub root : get_or word (length word - 1) 0 ≡ 114
-
-signed_shape : (sign : ℕ) (n : ℕ) → IsSign sign → IsRootShaped (sign ∷ (natural_text n ++ 114 ∷ []))
-signed_shape sign n is =
-    let long = length-append (natural_text n) (114 ∷ []) in
-    let some = natural_text_some n in
-    let last = get_or-append-add (natural_text n) (114 ∷ []) 0 0 in
-    let place : suc (length (natural_text n ++ 114 ∷ [])) - 1 ≡ suc (length (natural_text n) + 0) = omega arith in
-    record { long = omega arith; sign = is; root = ap (λ k. get_or (sign ∷ (natural_text n ++ 114 ∷ [])) k 0) place ∙ last }
-
-pub root_shape : (n : ℤ) → 0 < length (root_text n) → IsRootShaped (root_text n)
-root_shape (pos zero) some = absurd (omega arith)
-root_shape (pos (suc n)) some = signed_shape 43 (suc n) (inl refl)
-root_shape (negsuc n) some = signed_shape 45 (suc n) (inr refl)
-
-pub not_root : (word : List ℕ) → 0 < length word → ¬ (IsRootShaped word) → (n : ℤ) → word ≢ root_text n
-not_root word some refuted n e = refuted (subst IsRootShaped (sym e) (root_shape n (subst (λ text. 0 < length text) e some)))
+-- a multiple of √D begins with a sign where it isn't 0
+pub root_sign : (n : ℤ) → 0 < length (root_text n) → IsSign (get_or (root_text n) 0 0)
+root_sign (pos zero) some = absurd (omega arith)
+root_sign (pos (suc n)) some = inl refl
+root_sign (negsuc n) some = inr refl
 
 -- one text a number
 pub whole_injective : (m n : ℤ) → whole_text m ≡ whole_text n → m ≡ n

@@ -11,7 +11,7 @@ use Rattle.plane.specs.declared.words.QuadWord.{QuadWord}
 use Rattle.plane.specs.declared.words.QuadWord.TheVariants as quad_word
 use Rattle.plane.specs.declared.words.VectorWord.{VectorWord}
 use Rattle.plane.specs.declared.words.VectorWord.TheVariants as vector_word
-use Rattle.plane.specs.Spelling.{natural_text, whole_text, root_text, quad_text, vector_text}
+use Rattle.plane.specs.Spelling.{natural_text, quad_text, vector_text}
 
 -- the natural number that is spelled, that it is 2^128 or more, or that none is spelled
 abbrev pub IsNaturalRead : List ℕ → NaturalWord → Type 0

@@ -1,5 +1,5 @@
 -- The one spelling of natural numbers, whole numbers, K-integers and vectors, as bytes of ASCII.
-use Rattle.std.specs.Prelude.{◌≡◌, ℕ, zero, suc, ◌+◌, ◌<◌, ℤ, pos, negsuc, List, [], ◌∷◌, ◌++◌, map, codes}
+use Rattle.std.specs.Prelude.{ℕ, zero, suc, ◌+◌, ℤ, pos, negsuc, List, [], ◌++◌, map, codes}
 use Rattle.std.specs.Int.Digits.{digits_of}
 use Rattle.quad_field.specs.declared.quad.Quad.{Quad}
 use Rattle.plane.specs.declared.vec2.Vec2.{Vec2}

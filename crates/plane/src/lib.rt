@@ -6,7 +6,7 @@ mod texts;
 mod vec2;
 mod words;
 
-pub use texts::{put_natural, put_quad, put_vector};
+pub use texts::{QUAD_LENGTH, VECTOR_LENGTH, WHOLE_LENGTH, put_natural, put_quad, put_vector};
 pub use vec2::{Vec2, det, opposite, sum};
 pub use words::{NaturalWord, QuadWord, VectorWord, read_natural, read_quad, read_vector};
 

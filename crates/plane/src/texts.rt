@@ -1,6 +1,6 @@
 //! Numbers and vectors written as text, in their one spelling.
 
-ghost use Rattle.std.specs.Prelude.{◌≡◌, ◌+◌, ◌≤◌, ◌++◌, OnOk, OnErr, vec_len};
+ghost use Rattle.std.specs.Prelude.{◌≡◌, ◌+◌, ◌≤◌, ◌++◌, IsOk, OnOk, OnErr, vec_len};
 ghost use Rattle.std.specs.Vec.{vec_capacity};
 ghost use Rattle.plane.specs.Spelling.{natural_text, whole_text, root_text, quad_text, vector_text};
 
@@ -10,13 +10,13 @@ use quad_field::Quad;
 use std::alloc::{AllocError, Global};
 
 /// No text of a whole number in i128 is longer.
-const WHOLE_LENGTH: usize = 40;
+pub const WHOLE_LENGTH: usize = 40;
 
 /// No text of a K-integer with parts in i128 is longer: a sign and `r` beside two whole numbers.
-const QUAD_LENGTH: usize = 82;
+pub const QUAD_LENGTH: usize = 82;
 
 /// No text of a vector with parts in i128 is longer.
-const VECTOR_LENGTH: usize = 165;
+pub const VECTOR_LENGTH: usize = 165;
 
 /// Appends the text of a whole number.
 fn append_whole(out: &mut Vec<u8>, n: i128)
@@ -57,8 +57,10 @@ fn append_quad(out: &mut Vec<u8>, x: Quad)
     append_root(out, x.b);
 }
 
-/// Appends the text of a natural number. After an error the text is as it was.
+/// Appends the text of a natural number. After an error, which comes only where there is no room for the longest
+/// text of a whole number, all is as it was.
 pub fn put_natural(alloc: Global, out: &mut Vec<u8>, n: u64) -> Result<(), AllocError>
+    ensures room { vec_len out.old + WHOLE_LENGTH ≤ vec_capacity out.old → IsOk result }
     ensures ok { OnOk result (out.new.items ≡ out.old.items ++ natural_text n) }
     ensures err { OnErr result (out.new.items ≡ out.old.items) }
 {
@@ -67,8 +69,10 @@ pub fn put_natural(alloc: Global, out: &mut Vec<u8>, n: u64) -> Result<(), Alloc
     Ok(())
 }
 
-/// Appends the text of a K-integer. After an error the text is as it was.
+/// Appends the text of a K-integer. After an error, which comes only where there is no room for the longest text,
+/// all is as it was.
 pub fn put_quad(alloc: Global, out: &mut Vec<u8>, x: Quad) -> Result<(), AllocError>
+    ensures room { vec_len out.old + QUAD_LENGTH ≤ vec_capacity out.old → IsOk result }
     ensures ok { OnOk result (out.new.items ≡ out.old.items ++ quad_text x) }
     ensures err { OnErr result (out.new.items ≡ out.old.items) }
 {
@@ -77,8 +81,10 @@ pub fn put_quad(alloc: Global, out: &mut Vec<u8>, x: Quad) -> Result<(), AllocEr
     Ok(())
 }
 
-/// Appends the text of a vector. After an error the text is as it was.
+/// Appends the text of a vector. After an error, which comes only where there is no room for the longest text,
+/// all is as it was.
 pub fn put_vector(alloc: Global, out: &mut Vec<u8>, v: &Vec2) -> Result<(), AllocError>
+    ensures room { vec_len out.old + VECTOR_LENGTH ≤ vec_capacity out.old → IsOk result }
     ensures ok { OnOk result (out.new.items ≡ out.old.items ++ vector_text v.now) }
     ensures err { OnErr result (out.new.items ≡ out.old.items) }
 {

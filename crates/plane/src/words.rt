@@ -1,7 +1,6 @@
 //! Words of a text as numbers and vectors, read in their one spelling.
 
-ghost use Rattle.std.specs.Prelude.{◌≡◌, ◌≢◌, ◌↔◌, ℕ, ◌<◌, ◌≤◌, vec_len, ◌+◌, ◌*◌, ◌^◌, ◌++◌, None, SomeIff, MatchOption, IsTrue, OnOk, OnErr, length, slice_index};
-ghost use Rattle.std.specs.Vec.{vec_capacity};
+ghost use Rattle.std.specs.Prelude.{◌≡◌, ◌≢◌, ◌↔◌, ℕ, ◌<◌, ◌+◌, ◌*◌, ◌^◌, None, SomeIff, MatchOption, IsTrue, length, slice_index};
 ghost use Rattle.quad_field.specs.Width.{PartsFit};
 ghost use Rattle.quad_field.specs.declared.quad.Quad.{Quad as QuadValue};
 ghost use Rattle.plane.specs.declared.vec2.Vec2.{Vec2 as VectorValue};

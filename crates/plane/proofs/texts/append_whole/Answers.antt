@@ -1,4 +1,4 @@
-use Rattle.std.proofs.Common.{arith, rules, sym, ◌∙◌, ◌++◌, ap}
+use Rattle.std.proofs.Common.{arith}
 use Rattle.std.proofs.lemmas.Grind.{common_steps}
 use Rattle.plane.proofs.Wholes.{whole_text-signed}
 use Rattle.plane.proofs.texts.append_whole.Goals as goal

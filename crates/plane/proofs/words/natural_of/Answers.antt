@@ -1,6 +1,5 @@
-use Rattle.std.proofs.Common.{refl, rules, ◌≡◌, ◌<◌, arith, sym, ◌∙◌, get_or, length, Bool, false, subst, MatchOption, Some, None}
-use Rattle.std.proofs.lemmas.Grind.{common_steps}
-use Rattle.plane.proofs.Naturals.{IsNatural, not_natural, not_natural_at, so_far_more, so_far_all}
+use Rattle.std.proofs.Common.{refl, arith}
+use Rattle.plane.proofs.Naturals.{not_natural, not_natural_at, so_far_more, so_far_all}
 use Rattle.plane.proofs.words.natural_of.Goals as goal
 
 pub returns-then-is_empty : goal.returns-then-is_empty

@@ -1,4 +1,4 @@
-use Rattle.std.proofs.Common.{◌-◌, length, arith, rules}
+use Rattle.std.proofs.Common.{◌-◌, length, arith}
 use Rattle.plane.proofs.Wholes.{root_plus, root_minus}
 use Rattle.plane.proofs.words.read_root.Goals as goal
 

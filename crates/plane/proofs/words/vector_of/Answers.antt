@@ -1,4 +1,4 @@
-use Rattle.std.proofs.Common.{sym, ◌∙◌, ◌+◌, ◌<◌, length, arith}
+use Rattle.std.proofs.Common.{sym, ◌∙◌, ◌+◌, arith}
 use Rattle.std.proofs.lemmas.List.{take_rest}
 use Rattle.plane.proofs.Quads.{quad_spelled}
 use Rattle.plane.proofs.Vectors.{vector_wide, no_first, no_second}
