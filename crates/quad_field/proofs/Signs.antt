@@ -1,5 +1,5 @@
 -- The sign of a + b·√d, over plain numbers.
-use Rattle.std.proofs.Common.{◌≡◌, ℕ, zero, suc, ◌+◌, ◌*◌, ◌-◌, ◌<◌, ◌≤◌, ◌≢◌, ◌↔◌, IsTrue, Bool, true, false, not, arith, ap, refl, sym, subst}
+use Rattle.std.proofs.Common.{◌≡◌, ℕ, zero, suc, ◌+◌, ◌*◌, ◌<◌, ◌≤◌, ◌≢◌, ◌↔◌, IsTrue, Bool, true, false, not, arith, ap, refl, sym}
 use mathlib.Core.Logic.{inl, inr}
 use mathlib.Core.Path.{subst₂}
 use Rattle.std.specs.Prelude.{ℤ, pos, negsuc, neg_ℤ, ◌*ℤ◌, ◌<ℤ◌, ◌≤ℤ◌, ◌⊎◌, unsigned_abs}
@@ -7,7 +7,7 @@ use Rattle.std.proofs.lemmas.Int.{ints, by_lt_z}
 use borrow.Author.Differences.{up}
 use Rattle.quad_field.specs.declared.quad.Quad.{Quad}
 use Rattle.quad_field.specs.FieldNumber.{IsFieldNumber}
-use Rattle.quad_field.specs.Fraction.{IsBelowRoot, IsBelowQuotient, IsCompleteQuotient}
+use Rattle.quad_field.specs.Fraction.{IsBelowRoot, IsCompleteQuotient}
 use Rattle.quad_field.specs.Quads.{quad, quad_ops, IsPositive, IsZero}
 use Rattle.quad_field.proofs.Root.{irrational}
 use Rattle.quad_field.proofs.Squares.{below_strictly}
@@ -20,13 +20,7 @@ Split a b s t =
     ⊎ (((pos 0 <ℤ a) × (b <ℤ pos 0) × (t <ℤ s))
     ⊎ ((a <ℤ pos 0) × (pos 0 <ℤ b) × (s <ℤ t)))
 
--- ---- zero, positive and negative exclude one another, and one of them holds
-split_both : (a b s t : ℤ) → Split a b s t → Split (neg_ℤ a) (neg_ℤ b) s t → ⊥
-split_both a b s t p q = grind (arith, ints)
-
-split_zero : (a b s t : ℤ) → Split a b s t → a ≡ pos 0 → b ≡ pos 0 → ⊥
-split_zero a b s t p e f = grind (arith, ints)
-
+-- ---- what is neither zero nor positive has a positive negative
 no_part_above : (a b s t : ℤ) → a ≤ℤ pos 0 → b ≤ℤ pos 0 → ¬ ((a ≡ pos 0) × (b ≡ pos 0)) → Split (neg_ℤ a) (neg_ℤ b) s t
 no_part_above a b s t x y z = inl (omega (arith, ints), omega (arith, ints), λ e. z (omega (arith, ints, e.0), omega (arith, ints, e.1)))
 
@@ -63,18 +57,6 @@ module _ (d : ℕ) (x : Quad) where
   from_negative : Negative → IsPositive d ((quad_ops d).neg x)
   from_negative h = subst₂ (λ s t. Split (neg_ℤ x.a) (neg_ℤ x.b) s (pos d *ℤ t)) (sym (square_neg x.a)) (sym (square_neg x.b)) h
 
-  to_negative : IsPositive d ((quad_ops d).neg x) → Negative
-  to_negative h = subst₂ (λ s t. Split (neg_ℤ x.a) (neg_ℤ x.b) s (pos d *ℤ t)) (square_neg x.a) (square_neg x.b) h
-
-  pub not_both : IsPositive d x → IsPositive d ((quad_ops d).neg x) → ⊥
-  not_both p q = split_both x.a x.b (x.a *ℤ x.a) (pos d *ℤ (x.b *ℤ x.b)) p (to_negative q)
-
-  pub not_zero_too : IsZero x → IsPositive d x → ⊥
-  not_zero_too z p = split_zero x.a x.b (x.a *ℤ x.a) (pos d *ℤ (x.b *ℤ x.b)) p z.0 z.1
-
-  pub negative_of_zero : IsZero x → IsPositive d ((quad_ops d).neg x) → ⊥
-  negative_of_zero z p = split_zero (neg_ℤ x.a) (neg_ℤ x.b) (x.a *ℤ x.a) (pos d *ℤ (x.b *ℤ x.b)) (to_negative p) (ap neg_ℤ z.0) (ap neg_ℤ z.1)
-
   pub else_negative : IsFieldNumber d → ¬ (IsZero x) → ¬ (IsPositive d x) → IsPositive d ((quad_ops d).neg x)
   else_negative f z n =
       from_negative (split_one x.a x.b (x.a *ℤ x.a) (pos d *ℤ (x.b *ℤ x.b)) z (λ e. z (irrational_ℤ d f x.a x.b e)) n)
@@ -84,20 +66,11 @@ square_is : (a : ℤ) → pos (unsigned_abs a * unsigned_abs a) ≡ a *ℤ a
 square_is (pos n) = refl
 square_is (negsuc n) = refl
 
-pub not_zero : (a : ℤ) → a ≢ pos 0 → 0 < unsigned_abs a
+not_zero : (a : ℤ) → a ≢ pos 0 → 0 < unsigned_abs a
 not_zero a h = omega (arith, ints)
 
 first_split : (a b : ℤ) (m n : ℕ) → pos 0 <ℤ a → b <ℤ pos 0 → n ≢ m → (¬ (m < n)) ↔ Split a b (pos m) (pos n)
 first_split a b m n p q h = grind (arith, ints)
-
-second_split : (a b : ℤ) (m n : ℕ) → a <ℤ pos 0 → pos 0 <ℤ b → (m < n) ↔ Split a b (pos m) (pos n)
-second_split a b m n p q = grind (arith, ints)
-
-pub both_split : (a b s t : ℤ) → pos 0 ≤ℤ a → pos 0 ≤ℤ b → ¬ ((a ≡ pos 0) × (b ≡ pos 0)) ↔ Split a b s t
-both_split a b s t p q = grind (arith, ints)
-
-pub no_split : (a b s t : ℤ) → a ≤ℤ pos 0 → b ≤ℤ pos 0 → ¬ (Split a b s t)
-no_split a b s t p q h = grind (arith, ints)
 
 -- the first of the complete quotients is √d itself
 pub first_quotient : (d k : ℕ) → IsFieldNumber d → k * k ≤ d → d < suc k * suc k → IsCompleteQuotient d k 0 1 d
@@ -106,11 +79,6 @@ first_quotient d k f low high =
   where
     positive : (k : ℕ) → d < suc k * suc k → 1 ≤ 0 + k
     positive k h = let two = f.0 in grind arith
-
-pub first_is : (d p q : ℕ) → IsBelowQuotient d p q 0 1 ↔ IsBelowRoot d p q
-first_is d p q =
-    let e : p * 1 - 0 * q ≡ p = omega arith in
-    (λ h. subst (λ x. IsBelowRoot d x q) e h, λ h. subst (λ x. IsBelowRoot d x q) (sym e) h)
 
 module _ (d : ℕ) (f : IsFieldNumber d) (a b : ℤ) where
   abbrev p : ℕ
@@ -138,8 +106,3 @@ module _ (d : ℕ) (f : IsFieldNumber d) (a b : ℤ) where
       not_is : (b : Bool) → ¬ (IsTrue b) → IsTrue (not b)
       not_is true f = absurd (f refl)
       not_is false f = refl
-
-  pub second_case : a <ℤ pos 0 → pos 0 <ℤ b → (below : Bool) → (IsTrue below ↔ IsBelowRoot d p q) → IsTrue below ↔ IsPositive d (quad a b)
-  second_case x y below i =
-      let e = second_split a b (p * p) (d * (q * q)) x y in
-      (λ t. from_split (e.0 (i.0 t)), λ h. i.1 (e.1 (to_split h)))
