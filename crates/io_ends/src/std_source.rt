@@ -1,6 +1,8 @@
 //! A reader of std as a source.
 
-ghost use Rattle.std.specs.Prelude.{◌≡◌, ℕ, ◌<◌, ◌≤◌, List, length, None};
+ghost use Rattle.std.specs.Prelude.{◌≡◌, ◌<◌, ◌≤◌, length, None, IfOk, OnOk, OnErr};
+ghost use Rattle.std.specs.Io.KnownBytes.{ReadConsumes};
+ghost use Rattle.io_ends.specs.Ends.{count_after};
 
 use super::{Failed, Source};
 use std::io::Read;
@@ -28,7 +30,15 @@ impl<R: Read> Source for StdSource<R> {
 
     ghost faults = { λ s. s.faults };
 
-    fn read(&mut self, buf: &mut [u8]) -> Result<usize, Failed> {
+    /// One read of the reader.
+    fn read(&mut self, buf: &mut [u8]) -> Result<usize, Failed>
+        requires { 0 < length buf.old }
+        ensures within { IfOk result (λ n. n ≤ length buf.new) }
+        ensures bytes { ReadConsumes (R.remaining self.old.reader) (R.remaining self.new.reader) result buf.new }
+        ensures ok { OnOk result (self.new.faults ≡ self.old.faults) }
+        ensures failed { OnErr result (self.new.faults ≡ count_after self.old.faults) }
+        ensures never_falls { self.old.faults ≤ self.new.faults }
+    {
         match self.reader.read(buf) {
             Ok(n) => Ok(n),
             Err(_) => {

@@ -1,13 +1,14 @@
-//! Vectors of the plane over the K-integers.
-//! Every operation is exact, or says that a step of it lies outside i128.
+//! Vectors of the plane over the K-integers, and the words that spell them.
+//! Every operation is exact, or says that a step of it lies outside i128; every number has one spelling.
 #![tactic(auto)]
 
-#[cfg(test)]
-mod tests;
 mod texts;
 mod vec2;
 mod words;
 
-pub use texts::{put_quad, put_vector};
+pub use texts::{put_natural, put_quad, put_vector};
 pub use vec2::{Vec2, det, opposite, sum};
 pub use words::{NaturalWord, QuadWord, VectorWord, read_natural, read_quad, read_vector};
+
+#[cfg(test)]
+mod tests;

@@ -2,7 +2,7 @@
 
 ghost use Rattle.std.specs.Prelude.{◌≡◌, ◌+◌, ◌≤◌, ◌++◌, OnOk, OnErr, vec_len};
 ghost use Rattle.std.specs.Vec.{vec_capacity};
-ghost use Rattle.plane.specs.Spelling.{whole_text, root_text, quad_text, vector_text};
+ghost use Rattle.plane.specs.Spelling.{natural_text, whole_text, root_text, quad_text, vector_text};
 
 use super::Vec2;
 use itoa::Buffer;
@@ -55,6 +55,16 @@ fn append_quad(out: &mut Vec<u8>, x: Quad)
 {
     append_whole(out, x.a);
     append_root(out, x.b);
+}
+
+/// Appends the text of a natural number. After an error the text is as it was.
+pub fn put_natural(alloc: Global, out: &mut Vec<u8>, n: u64) -> Result<(), AllocError>
+    ensures ok { OnOk result (out.new.items ≡ out.old.items ++ natural_text n) }
+    ensures err { OnErr result (out.new.items ≡ out.old.items) }
+{
+    out.reserve(WHOLE_LENGTH)?;
+    append_whole(out, i128::from(n));
+    Ok(())
 }
 
 /// Appends the text of a K-integer. After an error the text is as it was.

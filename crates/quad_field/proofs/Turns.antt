@@ -1,4 +1,4 @@
--- The cases of `is_below`, over plain numbers.
+-- The cases of `is_below_quotient`, over plain numbers.
 use Rattle.std.proofs.Common.{◌≡◌, ℕ, ◌+◌, ◌*◌, ◌-◌, ◌/◌, ◌<◌, ◌≤◌, ◌↔◌, IsTrue, Bool, true, false, not, arith, refl}
 use Rattle.std.proofs.lemmas.Nat.{mul-le, div-add-mod', mod_below}
 use native.Mathlib.Nat.{le_refl}

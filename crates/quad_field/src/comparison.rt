@@ -32,6 +32,17 @@ fn is_below_root(d: u32, p: u128, q: u128) -> bool
     if p < SMALL && q < SMALL {
         return p * p < u128::from(d) * (q * q);
     }
+    is_wide_below_root(d, p, q)
+}
+
+/// Whether p / q is below √d, by their continued fractions: of no use where the squares fit.
+#[cold]
+#[inline(never)]
+fn is_wide_below_root(d: u32, p: u128, q: u128) -> bool
+    requires field { IsFieldNumber d }
+    requires some { 0 < q }
+    ensures { IsTrue result ↔ IsBelowRoot d p q }
+{
     let root = d.isqrt();
     is_below_quotient(d, root, p, q, 0, 1, d)
 }

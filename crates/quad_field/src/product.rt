@@ -1,14 +1,15 @@
 //! The two parts of a product of K-integers.
 
-ghost use Rattle.std.specs.Prelude.{pos, ◌+ℤ◌, ◌*ℤ◌};
-ghost use Rattle.quad_field.specs.Checked.{IsExactWhere};
-ghost use Rattle.quad_field.specs.Width.{FitsI128};
+ghost use Rattle.std.specs.Prelude.{◌+ℤ◌, ◌*ℤ◌};
+ghost use Rattle.quad_field.specs.Checked.{IsExactWhere, root_part_steps, whole_part_steps};
+ghost use Rattle.quad_field.specs.Quads.{product};
+ghost use Rattle.quad_field.specs.Width.{AllFit, FitsI128};
 
 use super::{Quad, TooWide};
 
-/// a·c + d·(b·e) of (a + b·√d)·(c + e·√d).
+/// The whole part of x·y, for numbers of the field of √d.
 pub fn whole_part(d: u32, x: Quad, y: Quad) -> Result<i128, TooWide>
-    ensures { IsExactWhere (FitsI128 (x.a *ℤ y.a) × FitsI128 (x.b *ℤ y.b) × FitsI128 (pos d *ℤ (x.b *ℤ y.b)) × FitsI128 ((x.a *ℤ y.a) +ℤ (pos d *ℤ (x.b *ℤ y.b)))) ((x.a *ℤ y.a) +ℤ (pos d *ℤ (x.b *ℤ y.b))) result }
+    ensures { IsExactWhere (AllFit (whole_part_steps d x y)) (product d x y).a result }
 {
     let ac = times(x.a, y.a)?;
     let bd = times(x.b, y.b)?;
@@ -16,9 +17,9 @@ pub fn whole_part(d: u32, x: Quad, y: Quad) -> Result<i128, TooWide>
     plus(ac, scaled)
 }
 
-/// a·e + b·c of (a + b·√d)·(c + e·√d).
+/// How many times √d is in x·y, for numbers of the field of √d.
 pub fn root_part(x: Quad, y: Quad) -> Result<i128, TooWide>
-    ensures { IsExactWhere (FitsI128 (x.a *ℤ y.b) × FitsI128 (x.b *ℤ y.a) × FitsI128 ((x.a *ℤ y.b) +ℤ (x.b *ℤ y.a))) ((x.a *ℤ y.b) +ℤ (x.b *ℤ y.a)) result }
+    ensures { IsExactWhere (AllFit (root_part_steps x y)) ((x.a *ℤ y.b) +ℤ (x.b *ℤ y.a)) result }
 {
     let ad = times(x.a, y.b)?;
     let bc = times(x.b, y.a)?;

@@ -56,5 +56,5 @@ IsCause d halves (Twin h) =
 IsCause d halves (Apart t) =
     HasTriangles halves × HoldsAll (IsTriangle halves) (IsClosed d halves) × HoldsAll (IsTriangle halves) (TurnsLeft d halves)
     × HoldsAll (IsHalf halves) (IsPaired d halves) × FailsFirst (IsTriangle halves) (IsJoined halves) t
-IsCause d halves (Wide formula) = HasTriangles halves × (formula ≡ F13) × ((t : ℕ) × IsTriangle halves t × IsWideAt d halves t)
+IsCause d halves (Wide formula) = HasTriangles halves × (formula ≡ F13) × HasWide d halves
 IsCause d halves Memory = ⊤

@@ -1,4 +1,10 @@
+pub mod Builds
+pub mod Edges
+pub mod Naming
+pub mod Narrow
 pub mod Outcomes
+pub mod Tables
+pub mod Twins
 pub mod Splits
 pub mod Spelled
 pub mod NumberWords

@@ -6,10 +6,12 @@ pub use Rattle.plane.specs.Vectors
 pub use Rattle.plane.specs.Spelling
 pub use Rattle.tri_core.specs.HalfEdges
 pub use Rattle.tri_core.specs.Triangulation
+pub use Rattle.tri_core.specs.Refusals
 pub use Rattle.io_ends.specs.Ends
 pub mod Commands
 pub mod TriangleFiles
 pub mod Contents
+pub mod Pairings
 pub mod Fronts
 pub mod Statuses
 pub mod Texts

@@ -77,15 +77,19 @@ pub record IsReadable (file : FileOfTriangles) : Type 0 where
 abbrev pub IsNamedOnce : FileOfTriangles → Type 0
 IsNamedOnce file = (h : ℕ) → h < 3 * length file.triangles → count_by (λ side. side == h) (named file.glues) ≡ 1
 
--- the input is the text of a file that is built to the triangulation of these half-edges
-pub record IsBuilt (input : List ℕ) (file : FileOfTriangles) (halves : List Half) : Type 0 where
-  pub short : length input ≤ 1048576
-  pub spelled : input ≡ file_text file
-  pub readable : IsReadable file
+-- the file's half-edges are these, and they are a triangulation over its field
+pub record Builds (file : FileOfTriangles) (halves : List Half) : Type 0 where
   pub field : IsFieldNumber file.field
   pub once : IsNamedOnce file
   pub half_edges : AreHalfEdges file halves
   pub valid : IsTriangulation file.field halves
+
+-- the input is the text of a file that builds the triangulation of these half-edges
+pub record IsBuilt (input : List ℕ) (file : FileOfTriangles) (halves : List Half) : Type 0 where
+  pub short : length input ≤ 1048576
+  pub spelled : input ≡ file_text file
+  pub readable : IsReadable file
+  pub builds : Builds file halves
 
 -- the input isn't the text of a file that is built
 abbrev pub IsNotBuilt : List ℕ → Type 0

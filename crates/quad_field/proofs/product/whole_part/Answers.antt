@@ -4,5 +4,4 @@ use Rattle.quad_field.proofs.Checked.{sum_of_scaled}
 use Rattle.quad_field.proofs.product.whole_part.Goals as goal
 
 pub returns : goal.returns
-returns c =
-    search (rules, to_z-of_z, sum_of_scaled)
+returns c = search (rules, to_z-of_z, sum_of_scaled)

@@ -1,6 +1,6 @@
 use Rattle.std.proofs.Common.{arith}
 use Rattle.quad_field.proofs.Signs.{first_quotient}
-use Rattle.quad_field.proofs.comparison.is_below_root.Goals as goal
+use Rattle.quad_field.proofs.comparison.is_wide_below_root.Goals as goal
 
 pub is_below_quotient-requires-clause-quotient : goal.is_below_quotient-requires-clause-quotient
 is_below_quotient-requires-clause-quotient c =
