@@ -18,11 +18,11 @@ vector_then stop v rest = vector_text v ++ stop ∷ rest
 abbrev pub field_then : ℕ → List ℕ → List ℕ
 field_then field rest = codes "flat 1\nfield " ++ natural_then 10 field rest
 
--- what follows `polygon ` in its line, and the rest
+-- what follows `polygon ` in its line, and the rest: spaces (32) between the vectors, a line feed (10) behind them
 abbrev pub triangle_then : Triangle → List ℕ → List ℕ
 triangle_then t rest = vector_then 32 t.first (vector_then 32 t.second (vector_then 10 t.third rest))
 
--- what follows `glue ` in its line, and the rest
+-- what follows `glue ` in its line, and the rest: a dot (46) in each side, a space (32) between them, a line feed (10) behind them
 abbrev pub glue_then : Glue → List ℕ → List ℕ
 glue_then g rest = natural_then 46 g.p1 (natural_then 32 g.e1 (natural_then 46 g.p2 (natural_then 10 g.e2 rest)))
 

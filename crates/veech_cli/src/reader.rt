@@ -149,3 +149,6 @@ pub(crate) fn read(alloc: Global, input: &[u8]) -> Result<TriangleFile, CheckFau
         glues,
     })
 }
+
+#[cfg(test)]
+mod tests;
