@@ -58,3 +58,23 @@ IsCause d halves (Apart t) =
     × HoldsAll (IsHalf halves) (IsPaired d halves) × FailsFirst (IsTriangle halves) (IsJoined halves) t
 IsCause d halves (Wide formula) = HasTriangles halves × (formula ≡ F13) × HasWide d halves
 IsCause d halves Memory = ⊤
+
+-- a refusal other than for width or memory
+abbrev pub IsForced : BadTri → Type 0
+IsForced Count = ⊤
+IsForced (Wide formula) = ⊥
+IsForced (Sum t) = ⊤
+IsForced (Turn t) = ⊤
+IsForced (Twin h) = ⊤
+IsForced (Apart t) = ⊤
+IsForced Memory = ⊥
+
+-- a refusal for width or memory, which may stand in place of any other answer
+abbrev pub IsFree : BadTri → Type 0
+IsFree Count = ⊥
+IsFree (Wide formula) = ⊤
+IsFree (Sum t) = ⊥
+IsFree (Turn t) = ⊥
+IsFree (Twin h) = ⊥
+IsFree (Apart t) = ⊥
+IsFree Memory = ⊤

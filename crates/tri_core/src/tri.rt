@@ -1,9 +1,10 @@
 //! Triangulations.
 
-ghost use Rattle.std.specs.Prelude.{◌≡◌, ◌↔◌, ℕ, ◌+◌, ◌*◌, ◌<◌, ◌≤◌, length, slice_get, Some, IsTrue, IsErrOf, IfOk, OnOk, IfErr};
+ghost use Rattle.std.specs.Prelude.{◌≡◌, ◌↔◌, ℕ, ◌+◌, ◌*◌, ◌<◌, ◌≤◌, length, slice_get, Some, IsTrue, IsErrOf, IfOk, OnOk, IfErr, MatchResult, ◌⊎◌};
 ghost use Rattle.tri_core.specs.HalfEdges.{next_of, twin_at};
 ghost use Rattle.tri_core.specs.Triangulation.{HasTriangles, IsTriangulation};
-ghost use Rattle.tri_core.specs.Refusals.{IsCause};
+ghost use Rattle.tri_core.specs.Refusals.{IsCause, IsForced, IsFree};
+ghost use Rattle.tri_core.specs.declared.tri.BadTri.{BadTri as Refusal};
 ghost use Rattle.tri_core.specs.declared.tri.BadTri.TheVariants.{Wide, Memory};
 ghost use Rattle.quad_field.specs.declared.formula.Formula.TheVariants.{F13};
 
@@ -109,6 +110,10 @@ impl Tri {
         ensures valid { OnOk result (IsTriangulation f.now halves.items) }
         ensures cause { IfErr result (IsCause f.now halves.items) }
         ensures count { IsErrOf result BadTri.Count ↔ IsCause f.now halves.items BadTri.Count }
+        // The other way round: what has its cause is answered, unless width or memory stands in its place.
+        ensures accepted { IsTriangulation f.now halves.items → IfErr result IsFree }
+        ensures refused { (bad : Refusal) → IsForced bad → IsCause f.now halves.items bad
+            → MatchResult result (λ _. ⊥) (λ other. (other ≡ bad) ⊎ IsFree other) }
     {
         check(alloc, f, halves.as_slice())?;
         Ok(Tri {
