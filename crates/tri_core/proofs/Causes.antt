@@ -1,5 +1,5 @@
 -- No two refusals have their cause together, and none has it at a triangulation.
-use Rattle.std.proofs.Common.{◌≡◌, ℕ, ◌<◌, ◌⊎◌, inl, inr, List, refl, ap}
+use Rattle.std.proofs.Common.{◌≡◌, ℕ, ◌⊎◌, inl, inr, List, refl, ap}
 use Rattle.std.proofs.lemmas.Bool.{cases_order}
 use Rattle.tri_core.specs.declared.half.Half.{Half}
 use Rattle.tri_core.specs.declared.tri.BadTri.{BadTri}

@@ -1,17 +1,16 @@
 -- Why an input that isn't built isn't: each refusal on the way against what a built file has.
-use Rattle.std.proofs.Common.{◌≡◌, ◌≢◌, ℕ, ◌+◌, ◌*◌, ◌%◌, ◌<◌, ◌≤◌, ◌↔◌, List, [], ◌∷◌, ◌++◌, map, length, zero, suc, refl, ap, subst, sym, ◌∙◌, arith, length-append}
+use Rattle.std.proofs.Common.{◌≡◌, ◌≢◌, ℕ, ◌+◌, ◌*◌, ◌<◌, ◌≤◌, ◌↔◌, List, [], ◌∷◌, ◌++◌, map, length, refl, subst, arith, length-append}
 use Rattle.std.specs.List.{AllByRecursion, flat_map}
 use Rattle.tri_core.specs.declared.half.Half.{Half}
 use Rattle.tri_core.specs.declared.tri.BadTri.{BadTri}
 use Rattle.tri_core.specs.declared.tri.BadTri.TheVariants as bad
 use Rattle.tri_core.specs.Triangulation.{HasTriangles, IsTriangle, IsTriangulation}
 use Rattle.tri_core.specs.Refusals.{IsCause}
-use Rattle.quad_field.specs.FieldNumber.{IsFieldNumber}
 use Rattle.plane.specs.Spelling.{natural_text}
 use Rattle.veech_cli.specs.declared.check.CheckFault.{CheckFault}
 use Rattle.veech_cli.specs.declared.check.CheckFault.TheVariants as check_faults
 use Rattle.veech_cli.specs.declared.triangle_file.Triangle.{Triangle}
-use Rattle.veech_cli.specs.TriangleFiles.{FileOfTriangles, HasSmallNumbers, sides, polygon_line, glue_line, file_text, Builds, IsBuilt, IsNotBuilt, AreHalfEdges, IsReadable}
+use Rattle.veech_cli.specs.TriangleFiles.{FileOfTriangles, HasSmallNumbers, sides, polygon_line, glue_line, file_text, Builds, IsNotBuilt, AreHalfEdges, IsReadable}
 use Rattle.veech_cli.proofs.Narrow.{not_wide}
 
 -- a polygon line has a byte at least

@@ -1,7 +1,7 @@
 -- Small numbers are never wide: the sums and determinants of vectors with parts of at most 100,000.
-use Rattle.std.proofs.Common.{◌≡◌, ℕ, ◌+◌, ◌*◌, ◌<◌, ◌≤◌, ◌^◌, List, [], ◌∷◌, ◌++◌, map, length, zero, suc, refl, ap, subst, sym, ◌∙◌, arith}
+use Rattle.std.proofs.Common.{◌≡◌, ℕ, ◌+◌, ◌*◌, ◌<◌, ◌≤◌, ◌^◌, List, [], ◌∷◌, map, length, zero, suc, subst, sym, arith}
 use Rattle.std.specs.Prelude.{ℤ, pos, ◌+ℤ◌, ◌-ℤ◌, ◌*ℤ◌, unsigned_abs}
-use Rattle.std.specs.List.{AllByRecursion, flat_map}
+use Rattle.std.specs.List.{AllByRecursion}
 use Rattle.std.specs.Int.{w128}
 use Rattle.std.proofs.lemmas.Int.{ints, unsigned_abs-mul, fits_signed_from_abs}
 use Rattle.std.proofs.lemmas.Nat.{mul-le}
@@ -12,7 +12,6 @@ use Rattle.plane.specs.declared.vec2.Vec2.{Vec2}
 use Rattle.plane.specs.Vectors.{vector_term, vector_sum, det, VectorFits}
 use Rattle.tri_core.specs.declared.half.Half.{Half}
 use Rattle.tri_core.specs.HalfEdges.{half_at}
-use Rattle.tri_core.specs.Triangulation.{IsTriangle}
 use Rattle.tri_core.specs.Refusals.{IsWideAt}
 use Rattle.veech_cli.specs.declared.triangle_file.Triangle.{Triangle}
 use Rattle.veech_cli.specs.TriangleFiles.{IsSmall, HasSmallNumbers, sides}

@@ -1,7 +1,6 @@
 -- What follows of an outcome: how a refusal of an end reaches the run, and that the answer is complete.
-use Rattle.std.proofs.Common.{◌≡◌, ℕ, ◌+◌, ◌<◌, ◌≤◌, ◌⊎◌, inl, inr, List, [], length, refl, sym, ap, ◌∙◌, subst, arith, Option, Some, None, Result, Ok, Err, unwrap_or, ◌↔◌}
-use Rattle.std.specs.Prelude.{IfSome, IfOk, IsErrOf}
-use Rattle.std.specs.Option.{option_map}
+use Rattle.std.proofs.Common.{◌≡◌, ℕ, ◌+◌, ◌<◌, ◌≤◌, ◌⊎◌, inl, inr, List, [], length, refl, sym, ◌∙◌, subst, arith, Option, Some, None, Result, Err, ◌↔◌}
+use Rattle.std.specs.Prelude.{IfSome, IsErrOf}
 use Rattle.io_ends.specs.Ends.{given}
 use Rattle.io_ends.specs.declared.reading.ReadAll.{ReadAll}
 use Rattle.io_ends.specs.declared.reading.ReadAll.TheVariants as read_faults
@@ -18,7 +17,7 @@ use Rattle.veech_cli.specs.Commands.{Names, AreTaken}
 use Rattle.veech_cli.specs.Statuses.{status_of, refusal_of_reading, refusal_of_check}
 use Rattle.veech_cli.specs.TriangleFiles.{FileOfTriangles, IsBuilt, IsNotBuilt}
 use Rattle.veech_cli.specs.Texts.{fault_line}
-use Rattle.veech_cli.specs.Runs.{Says, Concludes, Settles, Delivers, IsInput, IsRefusalOf, IsReadWhole, SpeaksOfInput}
+use Rattle.veech_cli.specs.Runs.{Concludes, Settles, Delivers, IsInput, IsRefusalOf, IsReadWhole, SpeaksOfInput}
 
 -- some input is what the source had left
 abbrev pub SomeInput : Option (List ℕ) → (List ℕ → Type 0) → Type 0

@@ -1,4 +1,3 @@
-use Rattle.std.proofs.Common.{sym, subst}
 use Rattle.std.proofs.lemmas.Result.{err_from_is_err_and, IfOk-at_ok}
 use Rattle.veech_cli.proofs.Outcomes.{reading_refused, reading_whole, check_refused}
 use Rattle.veech_cli.proofs.run.settle.Goals as goal
