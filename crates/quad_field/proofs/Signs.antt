@@ -21,10 +21,10 @@ Split a b s t =
     ⊎ ((a <ℤ pos 0) × (pos 0 <ℤ b) × (s <ℤ t)))
 
 -- ---- zero, positive and negative exclude one another, and one of them holds
-split_both : (a b s t : ℤ) → Split a b s t → Split (neg_ℤ a) (neg_ℤ b) s t → ⊥
+pub split_both : (a b s t : ℤ) → Split a b s t → Split (neg_ℤ a) (neg_ℤ b) s t → ⊥
 split_both a b s t p q = grind (arith, ints)
 
-split_zero : (a b s t : ℤ) → Split a b s t → a ≡ pos 0 → b ≡ pos 0 → ⊥
+pub split_zero : (a b s t : ℤ) → Split a b s t → a ≡ pos 0 → b ≡ pos 0 → ⊥
 split_zero a b s t p e f = grind (arith, ints)
 
 no_part_above : (a b s t : ℤ) → a ≤ℤ pos 0 → b ≤ℤ pos 0 → ¬ ((a ≡ pos 0) × (b ≡ pos 0)) → Split (neg_ℤ a) (neg_ℤ b) s t
@@ -45,7 +45,7 @@ split_one a b s t z e n =
     (λ x. by_lt_z b (pos 0) (λ y. first_above a b s t x y e (λ l. n (inr (inl (x, y, l))))) (λ y. absurd (n (inl (omega (arith, ints), y, z)))))
     (λ x. by_lt_z (pos 0) b (λ y. by_lt_z a (pos 0) (λ w. second_above a b s t w y e (λ l. n (inr (inr (w, y, l))))) (λ w. absurd (n (inl (w, omega (arith, ints), z))))) (λ y. no_part_above a b s t x y z))
 
-square_neg : (a : ℤ) → neg_ℤ a *ℤ neg_ℤ a ≡ a *ℤ a
+pub square_neg : (a : ℤ) → neg_ℤ a *ℤ neg_ℤ a ≡ a *ℤ a
 square_neg (pos zero) = refl
 square_neg (pos (suc n)) = refl
 square_neg (negsuc n) = refl

@@ -7,7 +7,7 @@ use Rattle.rings.specs.Ring.{Ops, IsRing, Expr, var, expr, look, eval}
 use Rattle.rings.specs.Order.{IsOrdered, Sign, is_zero, is_positive, is_negative}
 use Rattle.rings.specs.NormalForm.{same}
 use Rattle.rings.proofs.Solver.{solve}
-use Rattle.rings.proofs.Ordered.{clash, square, sum_more, product_more, factor, larger}
+use Rattle.rings.proofs.Ordered.{clash, square, sum_more, product_not_negative, factor, larger}
 use Rattle.rings.specs.Extension.{extended, norm}
 open expr use {add as ◌+'◌, mul as ◌*'◌, neg as neg', int as int'}
 
@@ -60,20 +60,20 @@ module _ {R : Type 0} (O : Ops R) (L : IsRing O) {P : R → Type 0} (Q : IsOrder
   over : (x y : R × R) → P (N x) → P x.0 → P (N y) → P y.0 → P (x.0 ⊗ y.0 ⊕ D ⊗ (x.1 ⊗ y.1))
   over x y nx px ny py = larger O L Q (x.0 ⊗ y.0) (D ⊗ (x.1 ⊗ y.1)) (Q.product _ _ px py)
       (turn x y (N' X *' (Y.0 *' Y.0) +' (d' *' (X.1 *' X.1)) *' N' Y) ((X.0 *' Y.0) *' (X.0 *' Y.0) +' neg' ((d' *' (X.1 *' Y.1)) *' (d' *' (X.1 *' Y.1)))) tt
-      (sum_more O L Q _ _ (Q.product _ _ nx (Q.product _ _ py py)) (product_more O L Q _ _ (product_more O L Q _ _ (inr large) (square O L Q x.1)) (inr ny))))
+      (sum_more O L Q _ _ (Q.product _ _ nx (Q.product _ _ py py)) (product_not_negative O L Q _ _ (product_not_negative O L Q _ _ (inr large) (square O L Q x.1)) (inr ny))))
 
   -- |a·c| < D·b·d
   under : (x y : R × R) → P (minus (N x)) → P x.1 → P (minus (N y)) → P y.1 → P (D ⊗ (x.1 ⊗ y.1) ⊕ x.0 ⊗ y.0)
   under x y nx px ny py = larger O L Q (D ⊗ (x.1 ⊗ y.1)) (x.0 ⊗ y.0) (Q.product _ _ large (Q.product _ _ px py))
       (turn x y (neg' (N' X) *' (d' *' (Y.1 *' Y.1)) +' (X.0 *' X.0) *' neg' (N' Y)) ((d' *' (X.1 *' Y.1)) *' (d' *' (X.1 *' Y.1)) +' neg' ((X.0 *' Y.0) *' (X.0 *' Y.0))) tt
-      (sum_more O L Q _ _ (Q.product _ _ nx (Q.product _ _ large (Q.product _ _ py py))) (product_more O L Q _ _ (square O L Q x.0) (inr ny))))
+      (sum_more O L Q _ _ (Q.product _ _ nx (Q.product _ _ large (Q.product _ _ py py))) (product_not_negative O L Q _ _ (square O L Q x.0) (inr ny))))
 
   -- |b·c| < a·d
   across : (x y : R × R) → P (N x) → P x.0 → P (minus (N y)) → P y.1 → P (x.0 ⊗ y.1 ⊕ x.1 ⊗ y.0)
   across x y nx px ny py = larger O L Q (x.0 ⊗ y.1) (x.1 ⊗ y.0) (Q.product _ _ px py)
       (factor O L Q _ D
       (turn x y ((X.0 *' X.0) *' neg' (N' Y) +' (Y.0 *' Y.0) *' N' X) (((X.0 *' Y.1) *' (X.0 *' Y.1) +' neg' ((X.1 *' Y.0) *' (X.1 *' Y.0))) *' d') tt
-      (sum_more O L Q _ _ (Q.product _ _ (Q.product _ _ px px) ny) (product_more O L Q _ _ (square O L Q y.0) (inr nx))))
+      (sum_more O L Q _ _ (Q.product _ _ (Q.product _ _ px px) ny) (product_not_negative O L Q _ _ (square O L Q y.0) (inr nx))))
       large)
 
   pub positive_product : (x y : R × R) → Positive x → Positive y → Positive (ext.mul x y)
@@ -105,7 +105,7 @@ module _ {R : Type 0} (O : Ops R) (L : IsRing O) {P : R → Type 0} (Q : IsOrder
   first_not_zero : {A : Type 0} (x : R × R) → P (N x) → x.0 ≡ zero_r → A
   first_not_zero x n e =
       absurd (Q.zero_is_not (subst P (same_of x x (N' X +' d' *' (X.1 *' X.1)) (X.0 *' X.0) tt ∙ ap (λ u. u ⊗ u) e ∙ same_of x x (int' (pos 0) *' int' (pos 0)) (int' (pos 0)) tt)
-      (sum_more O L Q _ _ n (product_more O L Q _ _ (inr large) (square O L Q x.1)))))
+      (sum_more O L Q _ _ n (product_not_negative O L Q _ _ (inr large) (square O L Q x.1)))))
 
   second_not_zero : {A : Type 0} (x : R × R) → P (minus (N x)) → x.1 ≡ zero_r → A
   second_not_zero x n e =

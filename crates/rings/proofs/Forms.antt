@@ -54,10 +54,10 @@ module _ {R : Type 0} (O : Ops R) (L : IsRing O) where
   chord_point_inner l = identity O L (l.0 ∷ l.1 ∷ l.2 ∷ []) (inner_value expr (chord_point expr l')) (expr.mul (expr.mul l'.2 l'.2) (discriminant expr l')) tt
 
   -- with γ = 0 it is β²·β²
-  pub upright_chord_point_inner : (α β : R) → inner_value O (upright_chord_point O (α, β, O.int (pos 0))) ≡ O.mul (O.mul β β) (discriminant O (α, β, O.int (pos 0)))
+  pub upright_chord_point_inner : (α β : R) → inner_value O (upright_chord_point O (α, β, O.int (pos 0))) ≡ O.mul (O.mul β β) (O.mul β β)
   upright_chord_point_inner α β =
-      identity O L (α ∷ β ∷ []) (inner_value expr (upright_chord_point expr (var 0, var 1, expr.int (pos 0))))
-      (expr.mul (expr.mul (var 1) (var 1)) (discriminant expr (var 0, var 1, expr.int (pos 0)))) tt
+      let b : Expr = expr.mul (var 1) (var 1) in
+      identity O L (α ∷ β ∷ []) (inner_value expr (upright_chord_point expr (var 0, var 1, expr.int (pos 0)))) (expr.mul b b) tt
 
   -- w·len(v) = (w·s + x·t)² + (w·y - x²)·t²
   pub completed_square : (q : R × R × R) (v : R × R) → O.mul q.0 (length_by O q v)

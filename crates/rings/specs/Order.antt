@@ -23,3 +23,11 @@ IsNotNegative O P a = (a ≡ O.int (pos 0)) ⊎ P a
 -- the positive whole numbers
 abbrev pub IsWholePositive : ℤ → Type 0
 IsWholePositive n = pos 0 <ℤ n
+
+-- a < b: the difference b - a is positive
+abbrev pub IsLess : {R : Type 0} → Ops R → (R → Type 0) → R → R → Type 0
+IsLess O P a b = P (O.sub b a)
+
+-- exactly one of three facts holds
+abbrev pub ExactlyOne : Type 0 → Type 0 → Type 0 → Type 0
+ExactlyOne A B C = (A ⊎ (B ⊎ C)) × ¬ (A × B) × ¬ (A × C) × ¬ (B × C)
