@@ -11,15 +11,16 @@ use Rattle.rings.specs.Ring.{Ops, IsRing, whole_ops, var, expr}
 use Rattle.rings.specs.Order.{IsOrdered, Sign, is_zero, is_positive, is_negative, IsNotNegative, IsWholePositive}
 use Rattle.rings.proofs.Solver.{identity}
 use Rattle.rings.proofs.Ordered.{sum_more, sum_not_negative, product_not_negative, equal_from_difference}
-use Rattle.rings.proofs.Whole.{whole_ring, whole_order}
+use Rattle.rings.proofs.WholeNumbers.{whole_ring, whole_order}
 use Rattle.quad_field.specs.declared.quad.Quad.{Quad}
 use Rattle.quad_field.specs.FieldNumber.{IsSquareFree}
 use Rattle.quad_field.specs.Quads.{quad, quad_ops, IsPositive}
 use Rattle.quad_field.specs.Size.{size}
-use Rattle.quad_field.proofs.KIntegers.{quad_ring, quad_order, irrational_whole}
-use Rattle.quad_field.proofs.Signs.{not_zero_too}
+use Rattle.quad_field.proofs.KIntegers.{quad_ring, quad_order}
+use Rattle.quad_field.proofs.Signs.{irrational_whole, not_zero_too}
 
 -- ---- whole numbers
+-- |-a| = |a|
 same_size : (a : ℤ) → unsigned_abs (neg_ℤ a) ≡ unsigned_abs a
 same_size (pos zero) = refl
 same_size (pos (suc n)) = refl
@@ -35,24 +36,31 @@ square_above d k m two some h =
 reach : (a : ℤ) (t : ℕ) → pos t ≤ℤ (pos (unsigned_abs a + t) +ℤ a)
 reach a t = omega (arith, ints)
 
+-- no natural number is below zero
 not_negative : (n : ℕ) → pos 0 ≤ℤ pos n
 not_negative n = omega (arith, ints)
 
+-- natural numbers are ordered as whole ones
 above : (m n : ℕ) → m < n → pos m <ℤ pos n
 above m n h = omega (arith, ints)
 
+-- a negative number is below zero
 below_zero : (n : ℕ) → negsuc n <ℤ pos 0
 below_zero n = omega (arith, ints)
 
+-- whole numbers that are natural are ordered as natural ones
 natural_order : (m n : ℕ) → pos m ≤ℤ pos n → m ≤ n
 natural_order m n h = omega (arith, ints)
 
+-- no natural number is at most a negative one
 never_below : (t m : ℕ) → pos t ≤ℤ negsuc m → ⊥
 never_below t m h = omega (arith, ints)
 
+-- b = 0 + b
 zero_more : (b : ℤ) → b ≡ pos 0 +ℤ b
 zero_more b = omega (arith, ints)
 
+-- a positive whole number less one
 one_less : (n : ℤ) (d : ℕ) → pos 0 <ℤ n → pos (0 * d) ≤ℤ (n -ℤ pos 1)
 one_less n d h = omega (arith, ints)
 
@@ -61,11 +69,13 @@ module _ (d : ℕ) (two : 2 ≤ d) where
   abbrev NotNegative : Quad → Type 0
   NotNegative x = IsNotNegative (quad_ops d) (IsPositive d) x
 
+  -- a number with no negative part
   no_part_negative : (m n : ℕ) → NotNegative (quad (pos m) (pos n))
   no_part_negative zero zero = inl refl
   no_part_negative zero (suc n) = inr (inl (not_negative 0, not_negative (suc n), λ z. absurd (omega (arith, ap up z.1))))
   no_part_negative (suc m) n = inr (inl (not_negative (suc m), not_negative n, λ z. absurd (omega (arith, ap up z.0))))
 
+  -- a + b·√d is not negative where a natural a is at least |b|·d
   natural_covers : (m : ℕ) (b : ℤ) → unsigned_abs b * d ≤ m → NotNegative (quad (pos m) b)
   natural_covers m (pos n) h = no_part_negative m n
   natural_covers m (negsuc n) h =
@@ -87,26 +97,32 @@ module _ (d : ℕ) (two : 2 ≤ d) where
       (covers (pos (size d r) +ℤ r.a) r.b (reach r.a (unsigned_abs r.b * d)))
 
 module _ (d : ℕ) (free : IsSquareFree d) (two : 2 ≤ d) where
+  -- the operations of K-integers
   abbrev O : Ops Quad
   O = quad_ops d
 
+  -- their laws
   abbrev L : IsRing (quad_ops d)
   L = quad_ring d
 
+  -- their order
   abbrev Q : IsOrdered (quad_ops d) (IsPositive d)
   Q = quad_order d free two
 
   module _ (p : Quad) where
-    -- the norm, the conjugate and the size of p
+    -- the norm of p
     abbrev norm : ℤ
     norm = (p.a *ℤ p.a) -ℤ (pos d *ℤ (p.b *ℤ p.b))
 
+    -- the conjugate of p
     abbrev conjugate : Quad
     conjugate = quad p.a (neg_ℤ p.b)
 
+    -- the size of p
     abbrev M : Quad
     M = O.int (pos (size d p))
 
+    -- p times its conjugate is its norm
     conjugate_product : O.mul p conjugate ≡ O.int norm
     conjugate_product = λ i. quad (whole i) (root i)
       where
@@ -121,10 +137,12 @@ module _ (d : ℕ) (free : IsSquareFree d) (two : 2 ≤ d) where
             identity whole_ops whole_ring (p.a ∷ p.b ∷ [])
             (expr.add (expr.mul (var 0) (expr.neg (var 1))) (expr.mul (var 1) (var 0))) (expr.int (pos 0)) tt
 
+    -- M + conjugate is not negative
     conjugate_above : NotNegative d two (O.add M conjugate)
     conjugate_above =
         subst (λ m. NotNegative d two (O.add (O.int (pos m)) conjugate)) (ap (λ k. unsigned_abs p.a + k * d) (same_size p.b)) (size_covers d two conjugate)
 
+    -- nor is M - conjugate
     conjugate_below : NotNegative d two (O.add M (O.neg conjugate))
     conjugate_below =
         subst (λ m. NotNegative d two (O.add (O.int (pos m)) (O.neg conjugate)))
@@ -155,9 +173,11 @@ module _ (d : ℕ) (free : IsSquareFree d) (two : 2 ≤ d) where
             (expr.sub (expr.mul (var 0) (var 1)) (expr.int (pos 1))) tt)
             (sum_not_negative O L Q _ _ (product_not_negative O L Q _ _ conjugate_above (inr h)) (above_one (neg_ℤ norm) n))
 
+  -- a whole number above zero
   positive_whole : (k : ℕ) → 0 < k → IsPositive d (O.int (pos k))
   positive_whole k h = inl (not_negative k, not_negative 0, λ z. absurd (omega (arith, ap up z.0, h)))
 
+  -- k + m·s = n, as K-integers
   whole_split : (k m s n : ℕ) → k + m * s ≡ n → O.add (O.int (pos k)) (O.mul (O.int (pos m)) (O.int (pos s))) ≡ O.int (pos n)
   whole_split k m s n e =
       ap (λ x. O.add (O.int (pos k)) x) (sym (L.int-mul (pos m) (pos s))) ∙ sym (L.int-add (pos k) (pos m *ℤ pos s)) ∙ ap (λ n. O.int (pos n)) e

@@ -1,29 +1,28 @@
 -- K-integers are an ordered commutative ring, by the three cases of a positive one.
-use Rattle.std.proofs.Common.{◌≡◌, ℕ, suc, ◌≤◌, arith, ap}
+use Rattle.std.proofs.Common.{◌≡◌, ℕ, ◌≤◌, arith, ap}
 use mathlib.Core.Path.{subst₂}
 use mathlib.Core.Logic.{inl, inr}
-use Rattle.std.specs.Prelude.{T, ℤ, pos, negsuc, ◌*ℤ◌, ◌-ℤ◌, neg_ℤ, ◌<ℤ◌, ◌≤ℤ◌, ◌⊎◌}
+use Rattle.std.specs.Prelude.{T, ℤ, pos, ◌*ℤ◌, ◌-ℤ◌, neg_ℤ, ◌<ℤ◌, ◌⊎◌}
 use Rattle.std.proofs.lemmas.Int.{ints}
-use borrow.Author.Differences.{up}
 use Rattle.rings.specs.Ring.{IsRing, Expr, eval, whole_ops}
 use Rattle.rings.specs.NormalForm.{same}
 use Rattle.rings.proofs.Solver.{solve}
 use Rattle.rings.specs.Order.{IsOrdered, Sign, is_zero, is_positive, is_negative, ExactlyOne}
 use Rattle.rings.specs.Extension.{extended}
 use Rattle.rings.proofs.Ordered.{no_divisors}
-use Rattle.rings.proofs.Whole.{whole_ring, whole_order}
+use Rattle.rings.proofs.WholeNumbers.{whole_ring, whole_order}
 use Rattle.rings.proofs.Extension.{extended_ring}
 use Rattle.rings.proofs.ExtensionOrder.{extended_order, Positive}
 use Rattle.quad_field.specs.declared.quad.Quad.{Quad}
 use Rattle.quad_field.specs.FieldNumber.{IsSquareFree}
 use Rattle.quad_field.specs.Quads.{quad, quad_ops, IsPositive, IsZero}
-use Rattle.quad_field.proofs.Root.{irrational}
-use Rattle.quad_field.proofs.Signs.{Split, split_both, split_zero, square_neg, not_both, not_zero_too, negative_of_zero}
+use Rattle.quad_field.proofs.Signs.{irrational_whole, Split, split_both, split_zero, square_neg, not_both, not_zero_too, negative_of_zero}
 
 -- ---- a K-integer and its pair of whole numbers
 abbrev of_pair : ℤ × ℤ → Quad
 of_pair p = quad p.0 p.1
 
+-- the pair of a K-integer
 abbrev pair : Quad → ℤ × ℤ
 pair x = (x.a, x.b)
 
@@ -49,13 +48,6 @@ quad_ring d =
 pub one_value : (d : ℕ) (v : ℕ → Quad) (l r : Expr) → T (same l r) → eval (quad_ops d) v l ≡ eval (quad_ops d) v r
 one_value d v l r t = solve (quad_ops d) (quad_ring d) v l r t
 
--- a² = d·b² only where both are zero
-pub irrational_whole : (d : ℕ) → IsSquareFree d → 2 ≤ d → (a b : ℤ) → a *ℤ a ≡ pos d *ℤ (b *ℤ b) → (a ≡ pos 0) × (b ≡ pos 0)
-irrational_whole d free two (pos m) (pos n) e = let r = irrational d free two m n (ap up e) in (ap pos r.0, ap pos r.1)
-irrational_whole d free two (pos m) (negsuc n) e = let r = irrational d free two m (suc n) (ap up e) in absurd (omega (arith, r.1))
-irrational_whole d free two (negsuc m) (pos n) e = let r = irrational d free two (suc m) n (ap up e) in absurd (omega (arith, r.0))
-irrational_whole d free two (negsuc m) (negsuc n) e = let r = irrational d free two (suc m) (suc n) (ap up e) in absurd (omega (arith, r.0))
-
 -- a positive norm and a positive whole part
 split_over : (a b s t : ℤ) → pos 0 <ℤ (s -ℤ t) → pos 0 <ℤ a → Split a b s t
 split_over a b s t n p = grind (arith, ints)
@@ -65,6 +57,7 @@ split_under : (a b s t : ℤ) → pos 0 <ℤ neg_ℤ (s -ℤ t) → pos 0 <ℤ b
 split_under a b s t n p = grind (arith, ints)
 
 module _ (d : ℕ) (free : IsSquareFree d) (two : 2 ≤ d) where
+  -- d is positive
   large : pos 0 <ℤ pos d
   large = omega (arith, ints)
 
@@ -72,6 +65,7 @@ module _ (d : ℕ) (free : IsSquareFree d) (two : 2 ≤ d) where
   abbrev NormPositive : ℤ × ℤ → Type 0
   NormPositive = Positive whole_ops whole_ring whole_order (pos d) large (irrational_whole d free two)
 
+  -- the order by the norm
   norm_order : IsOrdered (extended whole_ops (pos d)) NormPositive
   norm_order = extended_order whole_ops whole_ring whole_order (pos d) large (irrational_whole d free two)
 
@@ -80,6 +74,7 @@ module _ (d : ℕ) (free : IsSquareFree d) (two : 2 ≤ d) where
   by_cases x (inl p) = split_over x.a x.b (x.a *ℤ x.a) (pos d *ℤ (x.b *ℤ x.b)) p.0 p.1
   by_cases x (inr p) = split_under x.a x.b (x.a *ℤ x.a) (pos d *ℤ (x.b *ℤ x.b)) p.0 p.1
 
+  -- and back: a number that is positive by the three cases is so by its norm
   by_norm : (x : Quad) → IsPositive d x → NormPositive (pair x)
   by_norm x h = go (norm_order.sign (pair x))
     where
@@ -91,6 +86,7 @@ module _ (d : ℕ) (free : IsSquareFree d) (two : 2 ≤ d) where
           subst₂ (λ s t. Split (neg_ℤ x.a) (neg_ℤ x.b) s (pos d *ℤ t)) (square_neg x.a) (square_neg x.b) (by_cases (quad (neg_ℤ x.a) (neg_ℤ x.b)) p)
           in absurd (split_both x.a x.b (x.a *ℤ x.a) (pos d *ℤ (x.b *ℤ x.b)) h k)
 
+  -- the sign of a K-integer
   quad_sign : (x : Quad) → Sign (quad_ops d) (IsPositive d) x
   quad_sign x = go (norm_order.sign (pair x))
     where
@@ -129,8 +125,10 @@ module _ (d : ℕ) (free : IsSquareFree d) (two : 2 ≤ d) where
   pub exactly_one : (x : Quad) → ExactlyOne (IsPositive d x) (IsPositive d ((quad_ops d).neg x)) (IsZero x)
   exactly_one x = (one_of_three x, λ h. not_both d x h.0 h.1, λ h. not_zero_too d x h.1 h.0, λ h. negative_of_zero d x h.1 h.0)
 
+  -- a sum of positive ones
   pub sum_positive : (x y : Quad) → IsPositive d x → IsPositive d y → IsPositive d ((quad_ops d).add x y)
   sum_positive x y p q = quad_order.sum x y p q
 
+  -- a product of positive ones
   pub product_positive : (x y : Quad) → IsPositive d x → IsPositive d y → IsPositive d ((quad_ops d).mul x y)
   product_positive x y p q = quad_order.product x y p q

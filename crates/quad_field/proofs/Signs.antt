@@ -6,7 +6,7 @@ use Rattle.std.specs.Prelude.{ℤ, pos, negsuc, neg_ℤ, ◌*ℤ◌, ◌<ℤ◌,
 use Rattle.std.proofs.lemmas.Int.{ints, by_lt_z}
 use borrow.Author.Differences.{up}
 use Rattle.quad_field.specs.declared.quad.Quad.{Quad}
-use Rattle.quad_field.specs.FieldNumber.{IsFieldNumber}
+use Rattle.quad_field.specs.FieldNumber.{IsFieldNumber, IsSquareFree}
 use Rattle.quad_field.specs.Fraction.{IsBelowRoot, IsBelowQuotient, IsCompleteQuotient}
 use Rattle.quad_field.specs.Quads.{quad, quad_ops, IsPositive, IsZero}
 use Rattle.quad_field.proofs.Root.{irrational}
@@ -50,11 +50,12 @@ square_neg (pos zero) = refl
 square_neg (pos (suc n)) = refl
 square_neg (negsuc n) = refl
 
-irrational_ℤ : (d : ℕ) → IsFieldNumber d → (a b : ℤ) → a *ℤ a ≡ pos d *ℤ (b *ℤ b) → (a ≡ pos 0) × (b ≡ pos 0)
-irrational_ℤ d f (pos m) (pos n) e = let r = irrational d f.2 f.0 m n (ap up e) in (ap pos r.0, ap pos r.1)
-irrational_ℤ d f (pos m) (negsuc n) e = let r = irrational d f.2 f.0 m (suc n) (ap up e) in absurd (omega (arith, r.1))
-irrational_ℤ d f (negsuc m) (pos n) e = let r = irrational d f.2 f.0 (suc m) n (ap up e) in absurd (omega (arith, r.0))
-irrational_ℤ d f (negsuc m) (negsuc n) e = let r = irrational d f.2 f.0 (suc m) (suc n) (ap up e) in absurd (omega (arith, r.0))
+-- a² = d·b² only where both are zero
+pub irrational_whole : (d : ℕ) → IsSquareFree d → 2 ≤ d → (a b : ℤ) → a *ℤ a ≡ pos d *ℤ (b *ℤ b) → (a ≡ pos 0) × (b ≡ pos 0)
+irrational_whole d free two (pos m) (pos n) e = let r = irrational d free two m n (ap up e) in (ap pos r.0, ap pos r.1)
+irrational_whole d free two (pos m) (negsuc n) e = let r = irrational d free two m (suc n) (ap up e) in absurd (omega (arith, r.1))
+irrational_whole d free two (negsuc m) (pos n) e = let r = irrational d free two (suc m) n (ap up e) in absurd (omega (arith, r.0))
+irrational_whole d free two (negsuc m) (negsuc n) e = let r = irrational d free two (suc m) (suc n) (ap up e) in absurd (omega (arith, r.0))
 
 module _ (d : ℕ) (x : Quad) where
   abbrev Negative : Type 0
@@ -77,7 +78,7 @@ module _ (d : ℕ) (x : Quad) where
 
   pub else_negative : IsFieldNumber d → ¬ (IsZero x) → ¬ (IsPositive d x) → IsPositive d ((quad_ops d).neg x)
   else_negative f z n =
-      from_negative (split_one x.a x.b (x.a *ℤ x.a) (pos d *ℤ (x.b *ℤ x.b)) z (λ e. z (irrational_ℤ d f x.a x.b e)) n)
+      from_negative (split_one x.a x.b (x.a *ℤ x.a) (pos d *ℤ (x.b *ℤ x.b)) z (λ e. z (irrational_whole d f.2 f.0 x.a x.b e)) n)
 
 -- ---- the cases of `is_positive`
 square_is : (a : ℤ) → pos (unsigned_abs a * unsigned_abs a) ≡ a *ℤ a

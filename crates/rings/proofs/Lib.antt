@@ -1,6 +1,6 @@
 pub mod Solver
 pub mod Ordered
-pub mod Whole
+pub mod WholeNumbers
 pub mod Extension
 pub mod ExtensionOrder
 pub mod Forms

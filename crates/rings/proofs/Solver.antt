@@ -16,6 +16,7 @@ module _ {R : Type 0} (O : Ops R) (L : IsRing O) where
 
   infixl 60 ◌⊕◌
   infixl 70 ◌⊗◌
+  -- a + 0 = a
   add-zero : (a : R) → a ⊕ num_of (pos 0) ≡ a
   add-zero a = add_comm a (num_of (pos 0)) ∙ zero-add a
 
@@ -29,12 +30,15 @@ module _ {R : Type 0} (O : Ops R) (L : IsRing O) where
       a ⊕ minus a ≡⟨ add-neg a ⟩
       num_of (pos 0) ∎
 
+  -- 0·a = 0
   zero-mul : (a : R) → num_of (pos 0) ⊗ a ≡ num_of (pos 0)
   zero-mul a = zero_from (num_of (pos 0) ⊗ a) (sym (add-mul (num_of (pos 0)) (num_of (pos 0)) a) ∙ ap (λ x. x ⊗ a) (zero-add (num_of (pos 0))))
 
+  -- a·0 = 0
   mul-zero : (a : R) → a ⊗ num_of (pos 0) ≡ num_of (pos 0)
   mul-zero a = mul_comm a (num_of (pos 0)) ∙ zero-mul a
 
+  -- a·(b + c) = a·b + a·c
   mul-add : (a b c : R) → a ⊗ (b ⊕ c) ≡ a ⊗ b ⊕ a ⊗ c
   mul-add a b c = mul_comm a (b ⊕ c) ∙ add-mul b c a ∙ ap₂ ◌⊕◌ (mul_comm b a) (mul_comm c a)
 
@@ -43,6 +47,7 @@ module _ {R : Type 0} (O : Ops R) (L : IsRing O) where
   four a b c d =
       add_assoc a b (c ⊕ d) ∙ ap (λ x. a ⊕ x) (sym (add_assoc b c d) ∙ ap (λ x. x ⊕ d) (add_comm b c) ∙ add_assoc c b d) ∙ sym (add_assoc a c (b ⊕ d))
 
+  -- a·(b·c) = b·(a·c)
   left_comm : (a b c : R) → a ⊗ (b ⊗ c) ≡ b ⊗ (a ⊗ c)
   left_comm a b c = sym (mul_assoc a b c) ∙ ap (λ x. x ⊗ c) (mul_comm a b) ∙ mul_assoc b a c
 
@@ -56,6 +61,7 @@ module _ {R : Type 0} (O : Ops R) (L : IsRing O) where
       num_of (pos 0) ⊕ b ≡⟨ zero-add b ⟩
       b ∎
 
+  -- -a = (-1)·a
   minus_is : (a : R) → minus a ≡ num_of (negsuc 0) ⊗ a
   minus_is a = minus_from a (num_of (negsuc 0) ⊗ a)
       (ap (λ x. x ⊕ num_of (negsuc 0) ⊗ a) (sym (one-mul a)) ∙ sym (add-mul (num_of (pos 1)) (num_of (negsuc 0)) a)
@@ -67,12 +73,14 @@ module _ {R : Type 0} (O : Ops R) (L : IsRing O) where
   value v (number c) = num_of c
   value v (horner a p) = value (λ i. v (suc i)) a ⊕ v 0 ⊗ value v p
 
+  -- the value of c + p
   value-plus_number : (c : ℤ) (p : Poly) (v : ℕ → R) → value v (plus_number c p) ≡ num_of c ⊕ value v p
   unfolding value
   value-plus_number c none v = sym (add-zero (num_of c))
   value-plus_number c (number d) v = int-add c d
   value-plus_number c (horner a p) v = ap (λ x. x ⊕ v 0 ⊗ value v p) (value-plus_number c a (λ i. v (suc i))) ∙ add_assoc _ _ _
 
+  -- the value of p + q
   value-plus : (p q : Poly) (v : ℕ → R) → value v (plus p q) ≡ value v p ⊕ value v q
   unfolding value
   value-plus none q v = sym (zero-add (value v q))
@@ -83,6 +91,7 @@ module _ {R : Type 0} (O : Ops R) (L : IsRing O) where
       ap₂ ◌⊕◌ (value-plus a b (λ i. v (suc i))) (ap (λ x. v 0 ⊗ x) (value-plus p q v) ∙ mul-add (v 0) (value v p) (value v q))
       ∙ four (value (λ i. v (suc i)) a) (value (λ i. v (suc i)) b) (v 0 ⊗ value v p) (v 0 ⊗ value v q)
 
+  -- the value of c·p
   value-scaled : (c : ℤ) (p : Poly) (v : ℕ → R) → value v (scaled c p) ≡ num_of c ⊗ value v p
   unfolding value
   value-scaled c none v = sym (mul-zero (num_of c))
@@ -91,6 +100,7 @@ module _ {R : Type 0} (O : Ops R) (L : IsRing O) where
       ap₂ ◌⊕◌ (value-scaled c a (λ i. v (suc i))) (ap (λ x. v 0 ⊗ x) (value-scaled c p v) ∙ left_comm (v 0) (num_of c) (value v p))
       ∙ sym (mul-add (num_of c) (value (λ i. v (suc i)) a) (v 0 ⊗ value v p))
 
+  -- the value of a polynomial whose coefficients are multiplied by m
   value-each : (f : Poly → Poly) (v : ℕ → R) (m : R) → ((b : Poly) → value (λ i. v (suc i)) (f b) ≡ m ⊗ value (λ i. v (suc i)) b) → (q : Poly) → value v (each f q) ≡ m ⊗ value v q
   unfolding value
   value-each f v m h none = sym (mul-zero m)
@@ -99,6 +109,7 @@ module _ {R : Type 0} (O : Ops R) (L : IsRing O) where
       ap₂ ◌⊕◌ (h b) (ap (λ x. v 0 ⊗ x) (value-each f v m h q) ∙ left_comm (v 0) m (value v q))
       ∙ sym (mul-add m (value (λ i. v (suc i)) b) (v 0 ⊗ value v q))
 
+  -- the value of p·q
   value-times : (p q : Poly) (v : ℕ → R) → value v (times p q) ≡ value v p ⊗ value v q
   unfolding value
   value-times none q v = sym (zero-mul (value v q))
@@ -109,11 +120,13 @@ module _ {R : Type 0} (O : Ops R) (L : IsRing O) where
       (zero-add (v 0 ⊗ value v (times p q)) ∙ ap (λ x. v 0 ⊗ x) (value-times p q v) ∙ sym (mul_assoc (v 0) (value v p) (value v q)))
       ∙ sym (add-mul (value (λ i. v (suc i)) a) (v 0 ⊗ value v p) (value v q))
 
+  -- the value of a variable
   value-variable : (i : ℕ) (v : ℕ → R) → value v (variable i) ≡ v i
   unfolding value
   value-variable zero v = zero-add _ ∙ mul_comm _ _ ∙ one-mul (v 0)
   value-variable (suc i) v = ap₂ ◌⊕◌ (value-variable i (λ j. v (suc j))) (mul-zero (v 0)) ∙ add-zero _
 
+  -- a normal form has the value of its expression
   value-normal : (e : Expr) (v : ℕ → R) → value v (normal e) ≡ eval O v e
   unfolding value
   value-normal (var i) v = value-variable i v
@@ -126,11 +139,13 @@ module _ {R : Type 0} (O : Ops R) (L : IsRing O) where
   value-normal (mul a b) v = value-times (normal a) (normal b) v ∙ ap₂ ◌⊗◌ (value-normal a v) (value-normal b v)
   value-normal (neg a) v = value-scaled (negsuc 0) (normal a) v ∙ ap (λ x. num_of (negsuc 0) ⊗ x) (value-normal a v) ∙ sym (minus_is (eval O v a))
 
+  -- a number that is zero
   number-is_zero : (c : ℤ) → T (is_zero_number c) → num_of c ≡ num_of (pos 0)
   number-is_zero (pos zero) t = refl
   number-is_zero (pos (suc n)) t = absurd t
   number-is_zero (negsuc n) t = absurd t
 
+  -- a polynomial that is zero has the value zero
   value-is_zero : (p : Poly) (v : ℕ → R) → T (is_zero_poly p) → value v p ≡ num_of (pos 0)
   unfolding value
   value-is_zero none v t = refl
