@@ -66,3 +66,15 @@ module _ {R : Type 0} (O : Ops R) (L : IsRing O) where
       let sum : Expr = expr.add (expr.mul q'.0 u'.0) (expr.mul q'.1 u'.1) in
       identity O L (v.0 ∷ v.1 ∷ q.0 ∷ q.0 ∷ q.0 ∷ q.0 ∷ q.0 ∷ q.1 ∷ q.2 ∷ [])
       (expr.mul q'.0 (length_by expr q' u')) (expr.add (expr.mul sum sum) (expr.mul (inner_value expr q') (expr.mul u'.1 u'.1))) tt
+
+  -- det(v, u) = -det(u, v)
+  pub determinant_swap : (u v : R × R) → determinant O v u ≡ O.neg (determinant O u v)
+  determinant_swap u v =
+      identity O L (u.0 ∷ u.1 ∷ v.0 ∷ v.1 ∷ [])
+      (determinant expr (var 2, var 3) (var 0, var 1)) (expr.neg (determinant expr (var 0, var 1) (var 2, var 3))) tt
+
+  -- (a + b)·(a - b) = a² - b²
+  pub squares : (a b : R) → O.mul (O.add a b) (O.sub a b) ≡ O.sub (O.mul a a) (O.mul b b)
+  squares a b =
+      let x = var 0 in let y = var 1 in
+      identity O L (a ∷ b ∷ []) (expr.mul (expr.add x y) (expr.sub x y)) (expr.sub (expr.mul x x) (expr.mul y y)) tt

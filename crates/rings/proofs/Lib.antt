@@ -4,3 +4,4 @@ pub mod WholeNumbers
 pub mod Extension
 pub mod ExtensionOrder
 pub mod Forms
+pub mod Points
