@@ -4,3 +4,5 @@ pub mod Quotients
 pub mod Turns
 pub mod Signs
 pub mod Checked
+pub mod KIntegers
+pub mod Archimedes

@@ -6,8 +6,8 @@ use Rattle.std.specs.Prelude.{ℤ, pos, negsuc, neg_ℤ, ◌*ℤ◌, ◌<ℤ◌,
 use Rattle.std.proofs.lemmas.Int.{ints, by_lt_z}
 use borrow.Author.Differences.{up}
 use Rattle.quad_field.specs.declared.quad.Quad.{Quad}
-use Rattle.quad_field.specs.FieldNumber.{IsFieldNumber}
-use Rattle.quad_field.specs.Fraction.{IsBelowRoot, IsCompleteQuotient}
+use Rattle.quad_field.specs.FieldNumber.{IsFieldNumber, IsSquareFree}
+use Rattle.quad_field.specs.Fraction.{IsBelowRoot, IsBelowQuotient, IsCompleteQuotient}
 use Rattle.quad_field.specs.Quads.{quad, quad_ops, IsPositive, IsZero}
 use Rattle.quad_field.proofs.Root.{irrational}
 use Rattle.quad_field.proofs.Squares.{below_strictly}
@@ -20,7 +20,13 @@ Split a b s t =
     ⊎ (((pos 0 <ℤ a) × (b <ℤ pos 0) × (t <ℤ s))
     ⊎ ((a <ℤ pos 0) × (pos 0 <ℤ b) × (s <ℤ t)))
 
--- ---- what is neither zero nor positive has a positive negative
+-- ---- zero, positive and negative exclude one another, and one of them holds
+pub split_both : (a b s t : ℤ) → Split a b s t → Split (neg_ℤ a) (neg_ℤ b) s t → ⊥
+split_both a b s t p q = grind (arith, ints)
+
+pub split_zero : (a b s t : ℤ) → Split a b s t → a ≡ pos 0 → b ≡ pos 0 → ⊥
+split_zero a b s t p e f = grind (arith, ints)
+
 no_part_above : (a b s t : ℤ) → a ≤ℤ pos 0 → b ≤ℤ pos 0 → ¬ ((a ≡ pos 0) × (b ≡ pos 0)) → Split (neg_ℤ a) (neg_ℤ b) s t
 no_part_above a b s t x y z = inl (omega (arith, ints), omega (arith, ints), λ e. z (omega (arith, ints, e.0), omega (arith, ints, e.1)))
 
@@ -39,16 +45,17 @@ split_one a b s t z e n =
     (λ x. by_lt_z b (pos 0) (λ y. first_above a b s t x y e (λ l. n (inr (inl (x, y, l))))) (λ y. absurd (n (inl (omega (arith, ints), y, z)))))
     (λ x. by_lt_z (pos 0) b (λ y. by_lt_z a (pos 0) (λ w. second_above a b s t w y e (λ l. n (inr (inr (w, y, l))))) (λ w. absurd (n (inl (w, omega (arith, ints), z))))) (λ y. no_part_above a b s t x y z))
 
-square_neg : (a : ℤ) → neg_ℤ a *ℤ neg_ℤ a ≡ a *ℤ a
+pub square_neg : (a : ℤ) → neg_ℤ a *ℤ neg_ℤ a ≡ a *ℤ a
 square_neg (pos zero) = refl
 square_neg (pos (suc n)) = refl
 square_neg (negsuc n) = refl
 
-irrational_ℤ : (d : ℕ) → IsFieldNumber d → (a b : ℤ) → a *ℤ a ≡ pos d *ℤ (b *ℤ b) → (a ≡ pos 0) × (b ≡ pos 0)
-irrational_ℤ d f (pos m) (pos n) e = let r = irrational d f.2 f.0 m n (ap up e) in (ap pos r.0, ap pos r.1)
-irrational_ℤ d f (pos m) (negsuc n) e = let r = irrational d f.2 f.0 m (suc n) (ap up e) in absurd (omega (arith, r.1))
-irrational_ℤ d f (negsuc m) (pos n) e = let r = irrational d f.2 f.0 (suc m) n (ap up e) in absurd (omega (arith, r.0))
-irrational_ℤ d f (negsuc m) (negsuc n) e = let r = irrational d f.2 f.0 (suc m) (suc n) (ap up e) in absurd (omega (arith, r.0))
+-- a² = d·b² only where both are zero
+pub irrational_whole : (d : ℕ) → IsSquareFree d → 2 ≤ d → (a b : ℤ) → a *ℤ a ≡ pos d *ℤ (b *ℤ b) → (a ≡ pos 0) × (b ≡ pos 0)
+irrational_whole d free two (pos m) (pos n) e = let r = irrational d free two m n (ap up e) in (ap pos r.0, ap pos r.1)
+irrational_whole d free two (pos m) (negsuc n) e = let r = irrational d free two m (suc n) (ap up e) in absurd (omega (arith, r.1))
+irrational_whole d free two (negsuc m) (pos n) e = let r = irrational d free two (suc m) n (ap up e) in absurd (omega (arith, r.0))
+irrational_whole d free two (negsuc m) (negsuc n) e = let r = irrational d free two (suc m) (suc n) (ap up e) in absurd (omega (arith, r.0))
 
 module _ (d : ℕ) (x : Quad) where
   abbrev Negative : Type 0
@@ -57,9 +64,21 @@ module _ (d : ℕ) (x : Quad) where
   from_negative : Negative → IsPositive d ((quad_ops d).neg x)
   from_negative h = subst₂ (λ s t. Split (neg_ℤ x.a) (neg_ℤ x.b) s (pos d *ℤ t)) (sym (square_neg x.a)) (sym (square_neg x.b)) h
 
+  to_negative : IsPositive d ((quad_ops d).neg x) → Negative
+  to_negative h = subst₂ (λ s t. Split (neg_ℤ x.a) (neg_ℤ x.b) s (pos d *ℤ t)) (square_neg x.a) (square_neg x.b) h
+
+  pub not_both : IsPositive d x → IsPositive d ((quad_ops d).neg x) → ⊥
+  not_both p q = split_both x.a x.b (x.a *ℤ x.a) (pos d *ℤ (x.b *ℤ x.b)) p (to_negative q)
+
+  pub not_zero_too : IsZero x → IsPositive d x → ⊥
+  not_zero_too z p = split_zero x.a x.b (x.a *ℤ x.a) (pos d *ℤ (x.b *ℤ x.b)) p z.0 z.1
+
+  pub negative_of_zero : IsZero x → IsPositive d ((quad_ops d).neg x) → ⊥
+  negative_of_zero z p = split_zero (neg_ℤ x.a) (neg_ℤ x.b) (x.a *ℤ x.a) (pos d *ℤ (x.b *ℤ x.b)) (to_negative p) (ap neg_ℤ z.0) (ap neg_ℤ z.1)
+
   pub else_negative : IsFieldNumber d → ¬ (IsZero x) → ¬ (IsPositive d x) → IsPositive d ((quad_ops d).neg x)
   else_negative f z n =
-      from_negative (split_one x.a x.b (x.a *ℤ x.a) (pos d *ℤ (x.b *ℤ x.b)) z (λ e. z (irrational_ℤ d f x.a x.b e)) n)
+      from_negative (split_one x.a x.b (x.a *ℤ x.a) (pos d *ℤ (x.b *ℤ x.b)) z (λ e. z (irrational_whole d f.2 f.0 x.a x.b e)) n)
 
 -- ---- the cases of `is_positive`
 square_is : (a : ℤ) → pos (unsigned_abs a * unsigned_abs a) ≡ a *ℤ a

@@ -1,6 +1,7 @@
-pub mod Ring
+pub use Rattle.rings.specs.Ring
 pub mod Quads
 pub mod FieldNumber
 pub mod Width
 pub mod Fraction
 pub mod Checked
+pub mod Size

@@ -5,6 +5,8 @@
 mod comparison;
 mod field;
 mod formula;
+pub mod identities;
+pub mod laws;
 mod product;
 mod quad;
 mod radicand;

@@ -1,0 +1,5 @@
+pub mod Ring
+pub mod Order
+pub mod NormalForm
+pub mod Extension
+pub mod Forms
