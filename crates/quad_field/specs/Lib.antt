@@ -1,4 +1,5 @@
 pub use Rattle.rings.specs.Ring
+pub use Rattle.rings.specs.Forms
 pub mod Quads
 pub mod FieldNumber
 pub mod Width
