@@ -4,3 +4,4 @@ pub mod Quotients
 pub mod Turns
 pub mod Signs
 pub mod Checked
+pub mod Norms
