@@ -5,3 +5,4 @@ pub mod Turns
 pub mod Signs
 pub mod Checked
 pub mod Norms
+pub mod Contents

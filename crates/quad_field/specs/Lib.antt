@@ -4,3 +4,4 @@ pub mod FieldNumber
 pub mod Width
 pub mod Fraction
 pub mod Checked
+pub mod Content

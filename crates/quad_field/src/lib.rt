@@ -3,12 +3,14 @@
 #![tactic(auto)]
 
 mod comparison;
+mod divisors;
 mod field;
 mod formula;
 mod product;
 mod quad;
 mod radicand;
 
+pub use divisors::{content, reduce};
 pub use field::Field;
 pub use formula::Formula;
 pub use quad::{Quad, Sign, TooWide};
