@@ -1,11 +1,11 @@
 -- Divisors of lists of K-integers.
 use Rattle.std.proofs.Common.{◌≡◌, ℕ, zero, suc, ◌+◌, ◌*◌, ◌<◌, ◌≤◌, ◌≢◌, length, get_or, take, drop, set, [], ◌∷◌, ◌++◌, arith, ap, sym, refl, subst, ◌∙◌, add-one, below_more, get_or-set_other, length-set}
 use mathlib.Core.Path.{subst₂}
-use Rattle.std.specs.Prelude.{ℤ, pos, negsuc, neg_ℤ, ◌+ℤ◌, ◌*ℤ◌, ◌<ℤ◌, List, map, unsigned_abs, FitsSigned}
+use Rattle.std.specs.Prelude.{ℤ, pos, negsuc, neg_ℤ, ◌*ℤ◌, ◌<ℤ◌, List, map, unsigned_abs, FitsSigned}
 use Rattle.std.specs.Int.{IsGcd, w128}
-use Rattle.std.specs.List.{All, AllWithin}
+use Rattle.std.specs.List.{AllWithin}
 use Rattle.std.specs.Int.RustNames.{int_div, int_rem}
-use Prim.Native.Nat.{◌∣◌, ◌%◌}
+use Prim.Native.Nat.{◌∣◌}
 use Rattle.std.proofs.lemmas.Int.{ints, quot-rem, unsigned_abs-mul}
 use Rattle.std.proofs.lemmas.Nat.Gcd.{dvd_antisymm, dvd_trans, dvd-zero, le_of_dvd, mod-eq-zero_of_dvd}
 use Rattle.std.proofs.lemmas.List.{get_or_default}

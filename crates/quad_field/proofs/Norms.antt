@@ -1,5 +1,5 @@
 -- The root part of a product with the conjugate is zero.
-use Rattle.std.proofs.Common.{◌≡◌, ℕ, zero, suc, arith, ap, refl, sym, ◌∙◌}
+use Rattle.std.proofs.Common.{◌≡◌, ℕ, zero, suc, arith, ap, ◌∙◌}
 use Rattle.std.specs.Prelude.{ℤ, pos, negsuc, neg_ℤ, ◌+ℤ◌, ◌*ℤ◌}
 use Rattle.std.proofs.lemmas.Int.{ints}
 use Rattle.quad_field.specs.declared.quad.Quad.{Quad}

@@ -1,4 +1,4 @@
-use Rattle.std.proofs.Common.{rules, to_z, of_z, get_or, length, ◌≡◌, ◌<◌, arith, ap, sym, subst, ◌∙◌}
+use Rattle.std.proofs.Common.{rules, to_z, of_z, get_or, length, ◌<◌, arith, ap, sym, subst, ◌∙◌}
 use Rattle.std.specs.Prelude.{pos, ◌*ℤ◌, unsigned_abs, FitsSigned}
 use Rattle.std.specs.Int.{w128}
 use Rattle.std.proofs.lemmas.Int.{to_z-of_z}
