@@ -6,3 +6,5 @@ pub mod Signs
 pub mod Checked
 pub mod KIntegers
 pub mod Archimedes
+pub mod Norms
+pub mod Contents

@@ -6,3 +6,4 @@ pub mod Width
 pub mod Fraction
 pub mod Checked
 pub mod Size
+pub mod Content

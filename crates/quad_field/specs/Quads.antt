@@ -11,6 +11,14 @@ quad a b = record { a = a; b = b }
 abbrev pub product : ℕ → Quad → Quad → Quad
 product d x y = quad ((x.a *ℤ y.a) +ℤ (pos d *ℤ (x.b *ℤ y.b))) ((x.a *ℤ y.b) +ℤ (x.b *ℤ y.a))
 
+-- k·(a + b·√D): both parts times the whole number k
+abbrev pub scaled : ℤ → Quad → Quad
+scaled k x = quad (x.a *ℤ k) (x.b *ℤ k)
+
+-- the conjugate a - b·√D
+abbrev pub conjugate_of : Quad → Quad
+conjugate_of x = quad x.a (neg_ℤ x.b)
+
 -- the ring of K-integers: sums by components, and products
 abbrev pub quad_ops : ℕ → Ops Quad
 quad_ops d = record {

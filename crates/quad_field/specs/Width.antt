@@ -3,15 +3,17 @@ use Rattle.std.specs.Prelude.{ℕ, ℤ, pos, ◌+ℤ◌, ◌*ℤ◌, List, [], �
 use Rattle.std.specs.Int.{w128}
 use Rattle.quad_field.specs.declared.quad.Quad.{Quad}
 use Rattle.quad_field.specs.Ring.{Ops}
-use Rattle.quad_field.specs.Quads.{quad_ops, quad}
+use Rattle.quad_field.specs.Quads.{conjugate_of, quad, quad_ops, scaled}
 
--- a tree of sums, differences, products and negations of K-integers
+-- a tree of sums, differences, products, negations, multiples by whole numbers and conjugates of K-integers
 pub data Term : Type 0 where
   number : Quad → Term
   sum : Term → Term → Term
   difference : Term → Term → Term
   product : Term → Term → Term
   negation : Term → Term
+  scaling : ℤ → Term → Term
+  conjugate : Term → Term
 
 -- the operations that build trees: a formula at these is its own tree
 abbrev pub term_ops : Ops Term
@@ -24,6 +26,8 @@ value_of d (sum s t) = (quad_ops d).add (value_of d s) (value_of d t)
 value_of d (difference s t) = (quad_ops d).sub (value_of d s) (value_of d t)
 value_of d (product s t) = (quad_ops d).mul (value_of d s) (value_of d t)
 value_of d (negation s) = (quad_ops d).neg (value_of d s)
+value_of d (scaling k s) = scaled k (value_of d s)
+value_of d (conjugate s) = conjugate_of (value_of d s)
 
 -- -2^127 ≤ n < 2^127
 abbrev pub FitsI128 : ℤ → Type 0
@@ -51,3 +55,5 @@ StepsFit d (sum s t) = StepsFit d s × StepsFit d t × PartsFit (value_of d (sum
 StepsFit d (difference s t) = StepsFit d s × StepsFit d t × PartsFit (value_of d (difference s t))
 StepsFit d (product s t) = StepsFit d s × StepsFit d t × AllFit (product_steps d (value_of d s) (value_of d t))
 StepsFit d (negation s) = StepsFit d s × PartsFit (value_of d (negation s))
+StepsFit d (scaling k s) = StepsFit d s × PartsFit (value_of d (scaling k s))
+StepsFit d (conjugate s) = StepsFit d s × FitsI128 (value_of d (conjugate s)).b

@@ -3,8 +3,9 @@
 ghost use Rattle.std.specs.Prelude.{◌≡◌, ◌↔◌, IsOk, IfOk};
 ghost use Rattle.std.specs.Option.{SomeIff};
 ghost use Rattle.quad_field.specs.FieldNumber.{IsFieldNumber};
-ghost use Rattle.quad_field.specs.Quads.{quad_ops, IsPositive, IsZero};
-ghost use Rattle.quad_field.specs.Width.{number, sum, difference, product, negation, StepsFit};
+ghost use Rattle.std.specs.Prelude.{pos};
+ghost use Rattle.quad_field.specs.Quads.{conjugate_of, quad, quad_ops, scaled, IsPositive, IsZero};
+ghost use Rattle.quad_field.specs.Width.{number, sum, difference, product, negation, scaling, conjugate, StepsFit};
 
 use super::comparison::is_positive;
 use super::product::{root_part, whole_part};
@@ -89,6 +90,36 @@ impl Field {
         let a = x.a.checked_neg().ok_or(TooWide)?;
         let b = x.b.checked_neg().ok_or(TooWide)?;
         Ok(Quad { a, b })
+    }
+
+    /// k·x, too wide exactly where a part of it lies outside i128.
+    pub fn scale(&self, x: Quad, k: i128) -> Result<Quad, TooWide>
+        ensures exact { IfOk result (λ z. z ≡ scaled k x) }
+        ensures fits { IsOk result ↔ StepsFit self.now (scaling k (number x)) }
+    {
+        let a = x.a.checked_mul(k).ok_or(TooWide)?;
+        let b = x.b.checked_mul(k).ok_or(TooWide)?;
+        Ok(Quad { a, b })
+    }
+
+    /// The conjugate a - b·√D of x, too wide exactly where b is the least i128.
+    pub fn conj(&self, x: Quad) -> Result<Quad, TooWide>
+        ensures exact { IfOk result (λ z. z ≡ conjugate_of x) }
+        ensures fits { IsOk result ↔ StepsFit self.now (conjugate (number x)) }
+    {
+        let b = x.b.checked_neg().ok_or(TooWide)?;
+        Ok(Quad { a: x.a, b })
+    }
+
+    /// The norm a² - D·b² of x, as the product of x and its conjugate: too wide exactly where a step of these lies outside i128.
+    #[tactic(auto, using(crate::proofs::Norms::norm_is))]
+    pub fn norm(&self, x: Quad) -> Result<i128, TooWide>
+        ensures exact { IfOk result (λ n. quad n (pos 0) ≡ (quad_ops self.now).mul x (conjugate_of x)) }
+        ensures fits { IsOk result ↔ StepsFit self.now (product (number x) (conjugate (number x))) }
+    {
+        let conjugate = self.conj(x)?;
+        let product = self.mul(x, conjugate)?;
+        Ok(product.a)
     }
 
     /// The sign of the real number a + b·√D, for every x.

@@ -3,6 +3,7 @@
 #![tactic(auto)]
 
 mod comparison;
+mod divisors;
 mod field;
 mod formula;
 pub mod identities;
@@ -11,6 +12,7 @@ mod product;
 mod quad;
 mod radicand;
 
+pub use divisors::{content, reduce};
 pub use field::Field;
 pub use formula::Formula;
 pub use quad::{Quad, Sign, TooWide};

@@ -1,6 +1,6 @@
 //! Worked values, at ordinary numbers and at the ends of i128.
 
-use super::{Field, Quad, Sign, TooWide};
+use super::{Field, Quad, Sign, TooWide, content, reduce};
 use std::test::Fail;
 
 const MAX: i128 = i128::MAX;
@@ -282,4 +282,159 @@ fn tells_the_signs_of_convergents(rt: HostRuntime) -> Result<(), Fail> {
         );
     }
     Ok(())
+}
+
+// p and -q for the last convergent p / q of √d with p below 10^23, by p' = a·p + p0 and q' = a·q + q0 with the terms a of its continued
+// fraction, for every square-free d up to 60; then whether p² is above d·q².
+#[test]
+fn tells_the_signs_of_convergents_in_every_small_field(rt: HostRuntime) -> Result<(), Fail> {
+    for (d, p, q, above) in [
+        (2, 46292552162781456490001, -32733777552734744709300, true),
+        (3, 37746084314912758705537, -21792711940069192045616, true),
+        (5, 78813038642399407645162, -35246262383544562907057, false),
+        (6, 39586742089026670802885, -16161219782878991713198, true),
+        (7, 35061166466652716984168, -13251875306657183598333, true),
+        (10, 39945386524111332371403, -12631840343198829521029, false),
+        (11, 39667779713610549077343, -11960285597865251854579, false),
+        (13, 67714112035361755323479, -18780515616616157305407, true),
+        (14, 54622608689257962810244, -14598506234787466632959, true),
+        (15, 99676471670600124867871, -25736354319263310981224, true),
+        (17, 27670850984394901277284, -6711167138787446924161, false),
+        (19, 30356132893812752841530, -6964174505306352516039, true),
+        (21, 14252619104807110251895, -3110176471388205977988, true),
+        (22, 78980798112919565127016, -16838762736012296053661, false),
+        (23, 34969977606812025567115, -7291744390273435092049, true),
+        (26, 62717951585471999703115, -12300002268726510156601, false),
+        (29, 78031276805304028734527, -14490044334748074750705, true),
+        (30, 31978194508699008958091, -5838392826900760055074, true),
+        (31, 30772514866289589762681, -5526906826683362419033, true),
+        (33, 94341810154077637241377, -16422801170239287792904, true),
+        (34, 81677468524333750755126, -14007570289945037401681, true),
+        (35, 19850500136774508562206, -3355346929816795234321, true),
+        (37, 26574251867948048215518, -4368780095488158399985, false),
+        (38, 13452366034640253240001, -2182261935710542631400, true),
+        (39, 74349677945488832687106, -11905476665413930552849, false),
+        (41, 61111993118364002748173, -9544089861805512237442, true),
+        (42, 21293229181234844660737, -3285616594175108025248, true),
+        (43, 57032515249947238998151, -8697377038089427227540, true),
+        (46, 29721816295555408925777, -4382242735093187743741, true),
+        (47, 44163366169042551090247, -6441889030765795776959, true),
+        (51, 70629395392055746045793, -9890093571443534849401, false),
+        (53, 56093424824522071350182, -7705024467709744375225, false),
+        (55, 15960002327065336716001, -2152046274764094730680, true),
+        (57, 10446952837940835312151, -1383732706658512320180, true),
+        (58, 46316174427035658925363, -6081611647722756602886, true),
+        (59, 34615937076342697439257, -4506611150549779842483, false),
+    ] {
+        let field = Field::make(d).ok_or("a field's number")?;
+        let (sign, opposite) = if above {
+            (Sign::Plus, Sign::Minus)
+        } else {
+            (Sign::Minus, Sign::Plus)
+        };
+        let x = quad(p, q);
+        let one = quad(1, 0);
+        assert_eq!(rt; field.sign(x), sign, "{d}: {x:?}");
+        assert_eq!(rt;
+            field.neg(x).map(|y| field.sign(y)),
+            Ok(opposite),
+            "{d}: {x:?}"
+        );
+        assert_eq!(rt;
+            field.add(x, one).map(|y| field.sign(y)),
+            Ok(Sign::Plus),
+            "{d}: {x:?}"
+        );
+        assert_eq!(rt;
+            field.sub(x, one).map(|y| field.sign(y)),
+            Ok(Sign::Minus),
+            "{d}: {x:?}"
+        );
+    }
+    Ok(())
+}
+
+#[test]
+fn scales_and_conjugates(rt: HostRuntime) -> Result<(), Fail> {
+    const HALF: i128 = 1 << 63;
+    const WHOLE: i128 = 1 << 64;
+    let field = Field::make(2).ok_or("2 is square-free")?;
+    for (x, k, multiple) in [
+        (quad(1, -2), 3, Ok(quad(3, -6))),
+        (quad(MIN, MIN), 1, Ok(quad(MIN, MIN))),
+        (quad(MIN, MAX), 0, Ok(quad(0, 0))),
+        (quad(MIN, 0), -1, Err(TooWide)),
+        (quad(0, MIN), -1, Err(TooWide)),
+        (quad(MAX, MAX), -1, Ok(quad(-MAX, -MAX))),
+        (quad(-HALF, -HALF), WHOLE, Ok(quad(MIN, MIN))),
+        (quad(HALF, 0), WHOLE, Err(TooWide)),
+        (quad(0, HALF), WHOLE, Err(TooWide)),
+    ] {
+        assert_eq!(rt; field.scale(x, k), multiple, "{x:?} times {k}");
+    }
+    for (x, conjugate) in [
+        (quad(1, -2), Ok(quad(1, 2))),
+        (quad(MIN, MAX), Ok(quad(MIN, -MAX))),
+        (quad(0, MIN), Err(TooWide)),
+    ] {
+        assert_eq!(rt; field.conj(x), conjugate, "{x:?}");
+    }
+    for (x, norm) in [
+        (quad(3, 2), Ok(1)),
+        (quad(1, -1), Ok(-1)),
+        (quad(0, HALF), Ok(MIN)),
+        (quad(HALF, HALF), Ok(-HALF * HALF)),
+        // 2·b² alone is above 2^127
+        (quad(HALF, HALF + 1), Err(TooWide)),
+        // a² alone is 2^127 or more
+        (quad(MIN, 0), Err(TooWide)),
+        (quad(WHOLE, HALF), Err(TooWide)),
+        // -b alone is 2^127
+        (quad(0, MIN), Err(TooWide)),
+    ] {
+        assert_eq!(rt; field.norm(x), norm, "{x:?}");
+    }
+    let field = Field::make(997).ok_or("997 is square-free")?;
+    assert_eq!(rt; field.norm(quad(2, 3)), Ok(-8969));
+    Ok(())
+}
+
+#[test]
+fn finds_contents(rt: HostRuntime) {
+    let none: [Quad; 0] = [];
+    assert_eq!(rt; content(&none), 0);
+    for (list, divisor) in [
+        ([quad(0, 0), quad(0, 0)], 0),
+        ([quad(0, 0), quad(6, -4)], 2),
+        ([quad(0, -15), quad(10, 0)], 5),
+        ([quad(3, 0), quad(0, 5)], 1),
+        ([quad(MIN, 0), quad(0, MIN)], 1 << 127),
+        ([quad(MIN, 0), quad(0, 12)], 4),
+    ] {
+        assert_eq!(rt; content(&list), divisor, "{list:?}");
+    }
+}
+
+#[test]
+fn reduces(rt: HostRuntime) {
+    let mut nums = [quad(MIN, 12), quad(0, -8)];
+    let mut den = 4;
+    reduce(&mut nums, &mut den);
+    assert_eq!(rt; nums, [quad(-(1 << 125), 3), quad(0, -2)]);
+    assert_eq!(rt; den, 1);
+    let mut nums = [quad(MIN, MIN), quad(0, 0)];
+    let mut den = 3 << 125;
+    reduce(&mut nums, &mut den);
+    assert_eq!(rt; nums, [quad(-4, -4), quad(0, 0)]);
+    assert_eq!(rt; den, 3);
+    let mut nums = [quad(0, 0)];
+    let mut den = MAX;
+    reduce(&mut nums, &mut den);
+    assert_eq!(rt; nums, [quad(0, 0)]);
+    assert_eq!(rt; den, 1);
+    let mut nums = [quad(6, 0), quad(0, -10)];
+    let mut den = 15;
+    reduce(&mut nums, &mut den);
+    assert_eq!(rt; nums, [quad(6, 0), quad(0, -10)]);
+    assert_eq!(rt; den, 15);
 }
