@@ -7,7 +7,7 @@ use Rattle.std.proofs.lemmas.Int.{ints, by_lt_z}
 use borrow.Author.Differences.{up}
 use Rattle.quad_field.specs.declared.quad.Quad.{Quad}
 use Rattle.quad_field.specs.FieldNumber.{IsFieldNumber, IsSquareFree}
-use Rattle.quad_field.specs.Fraction.{IsBelowRoot, IsBelowQuotient, IsCompleteQuotient}
+use Rattle.quad_field.specs.Fraction.{IsBelowRoot, IsCompleteQuotient}
 use Rattle.quad_field.specs.Quads.{quad, quad_ops, IsPositive, IsZero}
 use Rattle.quad_field.proofs.Root.{irrational}
 use Rattle.quad_field.proofs.Squares.{below_strictly}
