@@ -1,5 +1,8 @@
 //! Tables of base points with their text, and a file as it is written.
 
+ghost use Rattle.std.specs.Prelude.{◌≡◌, ◌∷◌, [], IfOk};
+ghost use Rattle.surface_text.specs.Limits.{IsBasePoint};
+
 use super::{Glue, Point, Polygon, SurfaceFile, put_point, read_point, write};
 use plane::Vec2;
 use quad_field::Quad;
@@ -27,10 +30,17 @@ fn reads_and_writes_base_points(rt: HostRuntime) -> Result<(), Fail> {
             point(999_999_999, 1_000_000_000, 1, 1),
         ),
     ] {
-        assert_eq!(rt; read_point(text.as_bytes()), Some(at), "at {text}");
-        let mut out = Vec::from_slice(rt.alloc(), b"|")?;
-        put_point(rt.alloc(), &mut out, &at)?;
-        assert_eq!(rt; &out[1..], text.as_bytes(), "at {text}");
+        let read = read_point(text.as_bytes());
+        assert_eq!(rt; read, Some(at), "at {text}");
+        if let Some(found) = read {
+            let mut out = Vec::from_slice(rt.alloc(), b"|")?;
+            put_point(rt.alloc(), &mut out, &found)?;
+            assert_eq!(rt;
+                out.split_first(),
+                Some((&b'|', text.as_bytes())),
+                "at {text}"
+            );
+        }
     }
     Ok(())
 }
@@ -89,9 +99,12 @@ fn vector(a: i128, b: i128, c: i128, d: i128) -> Vec2 {
     }
 }
 
-/// A file of two polygons with a number of each form.
-fn of_each_form(alloc: Global) -> Result<SurfaceFile, AllocError> {
-    let bases = Vec::from_slice(alloc, &[point(0, 1, 1, 1), point(-2, 13, 5, 4)])?;
+/// A file with this base point and a number of each form.
+fn of_each_form(alloc: Global, at: Point) -> Result<SurfaceFile, AllocError>
+    requires { IsBasePoint at }
+    ensures { IfOk result (λ file. file.bases.items ≡ at ∷ []) }
+{
+    let bases = vec![in alloc; at]?;
     let first = Polygon {
         sides: Vec::from_slice(
             alloc,
@@ -105,18 +118,16 @@ fn of_each_form(alloc: Global) -> Result<SurfaceFile, AllocError> {
     let second = Polygon {
         sides: Vec::new(alloc),
     };
-    let mut polygons = Vec::with_capacity(alloc, 2)?;
+    let mut polygons = Vec::new(alloc);
     polygons.push(first)?;
     polygons.push(second)?;
-    let glues = Vec::from_slice(
-        alloc,
-        &[Glue {
-            p1: 0,
-            e1: 2,
-            p2: 10,
-            e2: 4_294_967_295,
-        }],
-    )?;
+    let glue = Glue {
+        p1: 0,
+        e1: 2,
+        p2: 10,
+        e2: 4_294_967_295,
+    };
+    let glues = vec![in alloc; glue]?;
     Ok(SurfaceFile {
         field: 997,
         bases,
@@ -127,11 +138,15 @@ fn of_each_form(alloc: Global) -> Result<SurfaceFile, AllocError> {
 
 #[test]
 fn writes_each_form_of_a_number(rt: HostRuntime) -> Result<(), Fail> {
-    let file = of_each_form(rt.alloc())?;
-    let text = write(rt.alloc(), &file)?;
-    assert_eq!(rt;
-        text.as_slice(),
-        b"flat 1\nfield 997\nbase 0 1\nbase -2/13 5/4\npolygon 1,0 0+1r,-10-1r -5+3r,2\npolygon\nglue 0.2 10.4294967295\nend\n".as_slice()
-    );
+    let at = read_point(b"-2/13 5/4");
+    assert_eq!(rt; at, Some(point(-2, 13, 5, 4)));
+    if let Some(at) = at {
+        let file = of_each_form(rt.alloc(), at)?;
+        let text = write(rt.alloc(), &file)?;
+        assert_eq!(rt;
+            text.as_slice(),
+            b"flat 1\nfield 997\nbase -2/13 5/4\npolygon 1,0 0+1r,-10-1r -5+3r,2\npolygon\nglue 0.2 10.4294967295\nend\n".as_slice()
+        );
+    }
     Ok(())
 }
