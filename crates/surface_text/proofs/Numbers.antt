@@ -1,5 +1,5 @@
 -- Numbers and fractions, and the texts that they have.
-use Rattle.std.proofs.Common.{◌≡◌, ◌≢◌, ℕ, zero, suc, ◌+◌, ◌<◌, ◌≤◌, ℤ, pos, negsuc, ◌≤ℤ◌, List, [], ◌∷◌, ◌++◌, map, refl, ap, sym, ◌∙◌, subst, arith, unsigned_abs}
+use Rattle.std.proofs.Common.{◌≡◌, ◌≢◌, ℕ, zero, suc, ◌+◌, ◌<◌, ◌≤◌, ℤ, pos, negsuc, ◌≤ℤ◌, List, [], ◌∷◌, ◌++◌, map, refl, ap, sym, ◌∙◌, subst, arith}
 use Rattle.std.specs.List.{AllByRecursion}
 use Rattle.std.specs.Int.Digits.{digits_of}
 use Rattle.std.proofs.lemmas.Int.{ints}
@@ -8,7 +8,7 @@ use Rattle.surface_text.specs.declared.fronts.Reading.{Reading}
 use Rattle.surface_text.specs.declared.fronts.Reading.TheVariants as reading
 use Rattle.surface_text.specs.Limits.{IsBounded}
 use Rattle.surface_text.specs.Spelling.{denominator_text}
-use Rattle.surface_text.specs.Readings.{IsReading, IsTheOne, IsOneBeyond, IsNegative, IsDenominator}
+use Rattle.surface_text.specs.Readings.{IsReading, IsOneBeyond, IsNegative, IsDenominator}
 
 -- the stop isn't among the bytes
 abbrev pub Lacks : ℕ → List ℕ → Type 0

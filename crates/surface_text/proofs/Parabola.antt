@@ -1,5 +1,5 @@
 -- Bounded numbers, and their products.
-use Rattle.std.proofs.Common.{◌≡◌, ◌*ℤ◌, ℤ, ◌*◌, FitsSigned, ◌<◌, arith, to_z, of_z, w64, lit<, unsigned_abs}
+use Rattle.std.proofs.Common.{◌≡◌, ◌*ℤ◌, ℤ, FitsSigned, arith, to_z, of_z, w64, lit<, unsigned_abs}
 use Rattle.std.specs.Int.{w128}
 use Rattle.std.proofs.lemmas.Int.{fits_signed_mul, fits_signed_from_abs, to_z-of_z, unsigned_abs-mul}
 use Rattle.std.proofs.lemmas.Nat.{mul-le}

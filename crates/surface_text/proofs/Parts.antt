@@ -1,19 +1,18 @@
 -- Fractions and base points, put together of their parts.
-use Rattle.std.proofs.Common.{◌≡◌, ◌≢◌, ◌↔◌, ℕ, zero, suc, ◌<◌, ◌≤◌, ℤ, pos, negsuc, ◌≤ℤ◌, IsTrue, nat_eq, List, [], ◌∷◌, ◌++◌, refl, ap, sym, ◌∙◌, subst, arith, append_assoc, unsigned_abs, eq-eqb}
+use Rattle.std.proofs.Common.{◌≡◌, ◌≢◌, ◌↔◌, ℕ, zero, suc, ℤ, pos, negsuc, IsTrue, nat_eq, List, [], ◌∷◌, ◌++◌, refl, ap, sym, ◌∙◌, subst, arith, append_assoc, unsigned_abs, eq-eqb}
 use Rattle.std.specs.Int.{IsGcd}
-use Rattle.std.proofs.lemmas.Int.{ints}
 use Rattle.std.proofs.lemmas.Nat.Gcd.{same_from_IsGcd}
 use Rattle.plane.specs.Spelling.{whole_text}
 use Rattle.surface_text.specs.declared.file.Point.{Point}
 use Rattle.surface_text.specs.declared.fractions.Fraction.{Fraction}
 use Rattle.surface_text.specs.declared.fronts.Reading.{Reading}
 use Rattle.surface_text.specs.declared.fronts.Reading.TheVariants as reading
-use Rattle.surface_text.specs.Limits.{IsBounded, IsLowest, IsFraction, HasFractions, IsBoundedPoint, IsAbove, IsBasePoint}
+use Rattle.surface_text.specs.Limits.{IsBounded, IsLowest, IsBoundedPoint, IsAbove, IsBasePoint}
 use Rattle.surface_text.specs.Spelling.{denominator_text, fraction_text, point_text}
 use Rattle.surface_text.specs.Causes.{FrontOf, StopsAt}
 use Rattle.surface_text.specs.Readings.{IsReading, IsTheOne, IsOneBeyond, IsDenominator, IsFractionOf, IsBoundedFraction, IsPointOf}
 use Rattle.surface_text.proofs.Stops.{same_front}
-use Rattle.surface_text.proofs.Numbers.{Lacks, lacks_both, natural_text_lacks, whole_text_lacks}
+use Rattle.surface_text.proofs.Numbers.{Lacks, lacks_both, whole_text_lacks}
 
 -- lowest terms are a greatest common divisor of 1
 pub lowest_test : (n d : ℤ) (a b g : ℕ) → a ≡ unsigned_abs n → b ≡ unsigned_abs d → IsGcd a b g → IsTrue (nat_eq g 1) ↔ IsLowest n d

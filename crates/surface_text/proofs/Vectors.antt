@@ -1,5 +1,5 @@
 -- Vectors of bounded numbers.
-use Rattle.std.proofs.Common.{◌≡◌, ◌↔◌, ◌⊎◌, ℕ, ◌^◌, ◌<◌, ◌≤◌, ℤ, pos, negsuc, List, subst, arith, rules, inl, inr}
+use Rattle.std.proofs.Common.{◌≡◌, ◌↔◌, ◌⊎◌, ℕ, ◌^◌, ℤ, pos, negsuc, List, subst, arith, rules, inl, inr}
 use Rattle.std.specs.Int.{w128}
 use Rattle.std.proofs.lemmas.Bool.{cases_lt}
 use Rattle.std.proofs.lemmas.Int.{ints, fits_signed_from_abs}
@@ -9,7 +9,7 @@ use Rattle.plane.specs.declared.words.VectorWord.{VectorWord}
 use Rattle.plane.specs.declared.words.VectorWord.TheVariants as vector_word
 use Rattle.plane.specs.declared.vec2.Vec2.{Vec2}
 use Rattle.plane.specs.Spelling.{vector_text}
-use Rattle.surface_text.specs.Limits.{IsBounded, IsBoundedQuad, IsBoundedVector}
+use Rattle.surface_text.specs.Limits.{IsBoundedQuad, IsBoundedVector}
 use Rattle.surface_text.specs.Readings.{IsTheOne, IsOneBeyond}
 
 -- a number fits i128 or doesn't

@@ -1,5 +1,5 @@
 -- Which lines and files are within the limits.
-use Rattle.std.specs.Prelude.{◌≡◌, ℕ, ◌≤◌, ◌<◌, ℤ, pos, ◌*ℤ◌, ◌≤ℤ◌, ◌<ℤ◌, List, [], length, get_or, unsigned_abs}
+use Rattle.std.specs.Prelude.{ℕ, ◌≤◌, ◌<◌, ℤ, pos, ◌*ℤ◌, ◌≤ℤ◌, ◌<ℤ◌, List, [], length, get_or, unsigned_abs}
 use Rattle.std.specs.Int.{IsGcd}
 use Rattle.std.specs.List.{AllByRecursion}
 use Rattle.quad_field.specs.declared.quad.Quad.{Quad}
@@ -7,8 +7,7 @@ use Rattle.quad_field.specs.FieldNumber.{IsFieldNumber}
 use Rattle.plane.specs.declared.vec2.Vec2.{Vec2}
 use Rattle.surface_text.specs.declared.file.Point.{Point}
 use Rattle.surface_text.specs.declared.file.Glue.{Glue}
-use Rattle.surface_text.specs.Spelling.{Line, Content}
-use Rattle.surface_text.specs.Spelling.Line.{flat, field, base, polygon, glue, end}
+use Rattle.surface_text.specs.Spelling.{Content}
 
 -- at most 1,000,000,000 in absolute value
 abbrev pub IsBounded : ℤ → Type 0

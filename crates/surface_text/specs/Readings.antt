@@ -1,8 +1,8 @@
 -- What bytes are read as.
-use Rattle.std.specs.Prelude.{◌≡◌, List, ℕ, suc, ℤ, pos, negsuc, ◌≤ℤ◌, ◌++◌, codes}
+use Rattle.std.specs.Prelude.{◌≡◌, List, ℕ, suc, ℤ, pos, negsuc, ◌≤ℤ◌}
 use Rattle.surface_text.specs.declared.file.Point.{Point}
 use Rattle.surface_text.specs.declared.fractions.Fraction.{Fraction}
-use Rattle.plane.specs.Spelling.{natural_text, whole_text}
+use Rattle.plane.specs.Spelling.{natural_text}
 use Rattle.surface_text.specs.Spelling.{denominator_text, fraction_text, point_text}
 use Rattle.surface_text.specs.Limits.{IsFraction, HasFractions, IsBounded}
 use Rattle.surface_text.specs.declared.fronts.Reading.{Reading}

@@ -1,4 +1,4 @@
-use Rattle.std.proofs.Common.{◌≡◌, sym, refl, to_z, of_z, w64}
+use Rattle.std.proofs.Common.{to_z, of_z, w64}
 use Rattle.surface_text.specs.Limits.{IsBounded}
 use Rattle.surface_text.specs.Readings.{IsDenominator}
 use Rattle.surface_text.proofs.Parabola.{bounded_kept}
