@@ -4,3 +4,6 @@ pub mod Parts
 pub mod Parabola
 pub mod Vectors
 pub mod Written
+pub mod Runs
+pub mod Dots
+pub mod Tails

@@ -176,3 +176,14 @@ pub record IsRefused (bytes : List ℕ) (number line : ℕ) : Type 0 where
   pub least : IsLeast cause before rest
   pub number_is : number ≡ number_of cause
   pub line_is : line ≡ length before + 1
+
+-- the rest begins with this line of printed characters, and its line feed
+abbrev pub IsNextLine : List ℕ → List ℕ → List ℕ → Type 0
+IsNextLine rest line after = FrontOf 10 rest line (10 ∷ after) × AllByRecursion IsPrinted line
+
+-- why the rest begins with no such line
+abbrev pub IsNoNextLine : List ℕ → Cause → Type 0
+IsNoNextLine rest NoLine = rest ≡ []
+IsNoNextLine rest CutLine = (rest ≢ []) × AllByRecursion (λ byte. byte ≢ 10) rest
+IsNoNextLine rest BadByte = (line after : List ℕ) × FrontOf 10 rest line (10 ∷ after) × ¬ (AllByRecursion IsPrinted line)
+IsNoNextLine rest cause = ⊥

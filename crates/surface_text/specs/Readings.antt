@@ -1,5 +1,5 @@
 -- What bytes are read as.
-use Rattle.std.specs.Prelude.{◌≡◌, List, ℕ, suc, ℤ, pos, negsuc, ◌≤ℤ◌}
+use Rattle.std.specs.Prelude.{codes, ◌++◌, ◌≡◌, List, ℕ, suc, ℤ, pos, negsuc, ◌≤ℤ◌}
 use Rattle.surface_text.specs.declared.file.Point.{Point}
 use Rattle.surface_text.specs.declared.fractions.Fraction.{Fraction}
 use Rattle.plane.specs.Spelling.{natural_text}
@@ -46,3 +46,7 @@ IsBoundedFraction f = IsBounded f.n × IsBounded f.d
 -- the bytes are this base point, in its form
 abbrev pub IsPointOf : List ℕ → Point → Type 0
 IsPointOf bytes at = (bytes ≡ point_text at) × HasFractions at
+
+-- what follows the word of a base line is this point, in its form
+abbrev pub IsTailPoint : List ℕ → Point → Type 0
+IsTailPoint tail at = (tail ≡ codes " " ++ point_text at) × HasFractions at

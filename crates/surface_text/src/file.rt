@@ -4,7 +4,7 @@ ghost use Rattle.std.specs.Prelude.{◌≡◌};
 ghost use Rattle.surface_text.specs.declared.file.TextFault.TheVariants.{Memory};
 
 use plane::Vec2;
-use std::alloc::AllocError;
+use std::alloc::{AllocError, AllocFailed};
 use thiserror::Error;
 
 /// The base point X = xn/xd, Y = yn/yd, with both fractions in lowest terms and denominators of at least 1.
@@ -49,6 +49,14 @@ pub enum TextFault {
     /// Memory ran out.
     #[error("out of memory")]
     Memory,
+}
+
+impl<T: Drop> From<AllocFailed<T>> for TextFault {
+    ghost from_gives = { λ _ fault. fault ≡ Memory };
+
+    fn from(_fault: AllocFailed<T>) -> TextFault {
+        TextFault::Memory
+    }
 }
 
 impl From<AllocError> for TextFault {

@@ -6,11 +6,16 @@ mod cause;
 mod file;
 mod fractions;
 mod fronts;
+mod lines;
+mod names;
 mod points;
+mod reader;
+mod sides;
 mod writer;
 
 pub use file::{Glue, Point, Polygon, SurfaceFile, TextFault};
 pub use points::read_point;
+pub use reader::read;
 pub use writer::{put_point, write};
 
 #[cfg(test)]

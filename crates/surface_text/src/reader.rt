@@ -1,0 +1,67 @@
+//! Reading a surface file.
+
+ghost use Rattle.std.specs.Prelude.{◌≤◌, length};
+
+use super::cause::Cause;
+use super::file::{SurfaceFile, TextFault};
+use super::lines::{BodyLine, field_line, first_line, next_line};
+use super::sides::LineFault;
+use std::alloc::Global;
+
+/// The refusal for this cause in this line.
+fn bad(cause: Cause, line: u64) -> TextFault {
+    TextFault::Bad {
+        cause: cause.number(),
+        line,
+    }
+}
+
+/// The same, memory included.
+fn fault_at(fault: LineFault, line: u64) -> TextFault {
+    match fault {
+        LineFault::Bad(cause) => bad(cause, line),
+        LineFault::Memory => TextFault::Memory,
+    }
+}
+
+/// The number of the line behind the lines of the file so far.
+fn next_number(file: &SurfaceFile) -> u64 {
+    3 + file.bases.len() as u64 + file.polygons.len() as u64 + file.glues.len() as u64
+}
+
+/// Reads the lines behind the field line, up to the end line and with it.
+fn body(alloc: Global, field: u32, bytes: &[u8]) -> Result<(SurfaceFile, &[u8]), TextFault> {
+    let mut file = SurfaceFile {
+        field,
+        bases: Vec::new(alloc),
+        polygons: Vec::new(alloc),
+        glues: Vec::new(alloc),
+    };
+    let mut rest = bytes;
+    'lines: loop {
+        let (line, after) = match next_line(alloc, &file, rest) {
+            Ok(taken) => taken,
+            Err(fault) => return Err(fault_at(fault, next_number(&file))),
+        };
+        rest = after;
+        match line {
+            BodyLine::Base(at) => file.bases.push(at)?,
+            BodyLine::Polygon(polygon) => file.polygons.push(polygon)?,
+            BodyLine::Glue(glue) => file.glues.push(glue)?,
+            BodyLine::End => return Ok((file, rest)),
+        }
+    }
+}
+
+/// The file that the bytes spell, all of the bytes. Else the first line with a fault, and the least cause in it.
+pub fn read(alloc: Global, bytes: &[u8]) -> Result<SurfaceFile, TextFault>
+    requires { length bytes.now ≤ 1048576 }
+{
+    let rest = first_line(bytes).map_err(|cause| bad(cause, 1))?;
+    let (field, rest) = field_line(rest).map_err(|cause| bad(cause, 2))?;
+    let (file, rest) = body(alloc, field, rest)?;
+    if !rest.is_empty() {
+        return Err(bad(Cause::AfterEnd, next_number(&file) + 1));
+    }
+    Ok(file)
+}
