@@ -5,3 +5,5 @@ pub mod Readings
 pub mod Sides
 pub mod Names
 pub mod Bases
+pub mod Lines
+pub mod Refusals

@@ -1,12 +1,15 @@
 //! Single lines of a surface file, each with the least cause where it is refused.
 
-ghost use Rattle.std.specs.Prelude.{◌↔◌, ◌<◌, IsTrue, MatchResult, map};
+ghost use Rattle.std.specs.Prelude.{◌≡◌, ◌↔◌, ◌<◌, [], ◌∷◌, ◌++◌, IsTrue, MatchResult, map};
+ghost use Rattle.quad_field.specs.FieldNumber.{IsFieldNumber};
+ghost use Rattle.surface_text.specs.Spelling.{Line, line_text, content, lines_before_end};
+ghost use Rattle.surface_text.specs.Lines.{IsSoFar, IsTaken, line_of, IsLineRefused};
 ghost use Rattle.surface_text.specs.declared.file.Polygon.{Polygon as PolygonValue};
 ghost use Rattle.surface_text.specs.Limits.{IsBoundedPoint, IsAbove, IsThere};
 ghost use Rattle.surface_text.specs.Readings.{IsTheOne, IsTailPoint};
 ghost use Rattle.surface_text.specs.Bases.{IsBaseBad};
 ghost use Rattle.std.specs.List.{AllByRecursion};
-ghost use Rattle.surface_text.specs.Causes.{IsPrinted, IsNextLine, IsNoNextLine};
+ghost use Rattle.surface_text.specs.Causes.{IsPrinted, IsNextLine, IsNoNextLine, IsLeast};
 
 use super::cause::Cause;
 use super::file::{Glue, Point, Polygon, SurfaceFile};
@@ -56,7 +59,11 @@ fn split_line(rest: &[u8]) -> Result<(&[u8], &[u8]), Cause>
 }
 
 /// Takes the first line.
-pub(crate) fn first_line(bytes: &[u8]) -> Result<&[u8], Cause> {
+pub(crate) fn first_line(bytes: &[u8]) -> Result<&[u8], Cause>
+    ensures { MatchResult result
+        (λ after. bytes.now ≡ line_text Line.flat ++ 10 ∷ after.now)
+        (λ cause. IsLeast cause [] bytes.now) }
+{
     let (line, after) = split_line(bytes)?;
     if line != b"flat 1".as_slice() {
         return Err(Cause::BadFirst);
@@ -75,7 +82,11 @@ fn field_of(tail: &[u8]) -> Result<u32, Cause> {
 }
 
 /// Takes the field line.
-pub(crate) fn field_line(rest: &[u8]) -> Result<(u32, &[u8]), Cause> {
+pub(crate) fn field_line(rest: &[u8]) -> Result<(u32, &[u8]), Cause>
+    ensures { MatchResult result
+        (λ taken. (rest.now ≡ line_text (Line.field taken.0) ++ 10 ∷ taken.1.now) × IsFieldNumber taken.0)
+        (λ cause. IsLeast cause (Line.flat ∷ []) rest.now) }
+{
     let (line, after) = split_line(rest)?;
     let (word, tail) = front(line, b' ');
     if word != b"field".as_slice() {
@@ -149,7 +160,12 @@ pub(crate) fn next_line<'a>(
     alloc: Global,
     file: &SurfaceFile,
     rest: &'a [u8],
-) -> Result<(BodyLine, &'a [u8]), LineFault> {
+) -> Result<(BodyLine, &'a [u8]), LineFault>
+    requires { IsSoFar (content file.now) }
+    ensures { MatchResult result
+        (λ taken. IsTaken (content file.now) rest.now (line_of taken.0) taken.1.now)
+        (λ fault. IsLineRefused (lines_before_end (content file.now)) rest.now fault) }
+{
     let (line, after) = split_line(rest)?;
     let (word, tail) = front(line, b' ');
     let polygons = file.polygons.as_slice();

@@ -1,6 +1,11 @@
 //! Reading a surface file.
 
-ghost use Rattle.std.specs.Prelude.{◌≤◌, length};
+ghost use Rattle.std.specs.Prelude.{◌≡◌, ◌≤◌, ◌⊎◌, ℕ, List, length, IfOk, IfErr, MatchResult};
+ghost use Rattle.surface_text.specs.declared.file.TextFault.TheVariants.{Bad, Memory};
+ghost use Rattle.surface_text.specs.Spelling.{Content, content, text};
+ghost use Rattle.surface_text.specs.Limits.{IsWithinLimits};
+ghost use Rattle.surface_text.specs.Causes.{IsRefused};
+ghost use Rattle.surface_text.specs.Refusals.{IsFaultOf};
 
 use super::cause::Cause;
 use super::file::{SurfaceFile, TextFault};
@@ -56,6 +61,15 @@ fn body(alloc: Global, field: u32, bytes: &[u8]) -> Result<(SurfaceFile, &[u8]),
 /// The file that the bytes spell, all of the bytes. Else the first line with a fault, and the least cause in it.
 pub fn read(alloc: Global, bytes: &[u8]) -> Result<SurfaceFile, TextFault>
     requires { length bytes.now ≤ 1048576 }
+    // What is answered: the file that the bytes spell, within the limits, or the first refused line and its least cause.
+    ensures spelled { IfOk result (λ file. bytes.now ≡ text (content file)) }
+    ensures limits { IfOk result (λ file. IsWithinLimits (content file)) }
+    ensures cause { IfErr result (IsFaultOf bytes.now) }
+    // The other way round: a text within the limits is read as the file that it spells, and what is refused is refused so.
+    ensures accepted { (file : Content) → bytes.now ≡ text file → IsWithinLimits file
+        → MatchResult result (λ read. content read ≡ file) (λ fault. fault ≡ Memory) }
+    ensures refused { (cause line : ℕ) → IsRefused bytes.now cause line
+        → MatchResult result (λ _. ⊥) (λ fault. (fault ≡ Bad cause line) ⊎ (fault ≡ Memory)) }
 {
     let rest = first_line(bytes).map_err(|cause| bad(cause, 1))?;
     let (field, rest) = field_line(rest).map_err(|cause| bad(cause, 2))?;
