@@ -6,4 +6,5 @@ pub mod Sides
 pub mod Names
 pub mod Bases
 pub mod Lines
+pub mod Faults
 pub mod Refusals

@@ -1,15 +1,16 @@
 //! Single lines of a surface file, each with the least cause where it is refused.
 
-ghost use Rattle.std.specs.Prelude.{◌≡◌, ◌↔◌, ◌<◌, [], ◌∷◌, ◌++◌, IsTrue, MatchResult, map};
+ghost use Rattle.std.specs.Prelude.{◌≡◌, ◌↔◌, ◌≤◌, ◌<◌, Bool, true, [], ◌∷◌, ◌++◌, length, IsTrue, MatchOption, MatchResult, Contains, map};
 ghost use Rattle.quad_field.specs.FieldNumber.{IsFieldNumber};
 ghost use Rattle.surface_text.specs.Spelling.{Line, line_text, content, lines_before_end};
-ghost use Rattle.surface_text.specs.Lines.{IsSoFar, IsTaken, line_of, IsLineRefused};
+ghost use Rattle.surface_text.specs.Lines.{HasFittingLength, IsSoFar, MayFollow, IsTaken, line_of, IsLineRefused};
 ghost use Rattle.surface_text.specs.declared.file.Polygon.{Polygon as PolygonValue};
-ghost use Rattle.surface_text.specs.Limits.{IsBoundedPoint, IsAbove, IsThere};
-ghost use Rattle.surface_text.specs.Readings.{IsTheOne, IsTailPoint};
+ghost use Rattle.surface_text.specs.Limits.{IsBoundedPoint, IsAbove, IsThere, NamesSides};
+ghost use Rattle.surface_text.specs.Readings.{IsReading, IsTheOne, IsTailPoint};
 ghost use Rattle.surface_text.specs.Bases.{IsBaseBad};
+ghost use Rattle.surface_text.specs.Faults.{IsLeastOfLine, IsBodyRefused, IsTailNumber, IsFieldBad, AreTheSides, IsPolygonRefused, IsTailGlue, IsBoundedGlue, IsGlueBad, word_of_kind, words_by, IsOpen};
 ghost use Rattle.std.specs.List.{AllByRecursion};
-ghost use Rattle.surface_text.specs.Causes.{IsPrinted, IsNextLine, IsNoNextLine, IsLeast};
+ghost use Rattle.surface_text.specs.Causes.{StopsAt, IsPrinted, IsNextLine, IsNoNextLine, IsLeast};
 
 use super::cause::Cause;
 use super::file::{Glue, Point, Polygon, SurfaceFile};
@@ -26,6 +27,15 @@ pub(crate) enum BodyLine {
     Base(Point),
     Polygon(Polygon),
     Glue(Glue),
+    End,
+}
+
+/// What a line behind the field line begins with.
+#[derive(Drop)]
+enum Kind {
+    Base,
+    Polygon,
+    Glue,
     End,
 }
 
@@ -71,14 +81,35 @@ pub(crate) fn first_line(bytes: &[u8]) -> Result<&[u8], Cause>
     Ok(after)
 }
 
-/// The number of a field line.
-fn field_of(tail: &[u8]) -> Result<u32, Cause> {
-    let digits = tail.strip_prefix(b" ").ok_or(Cause::BadForm)?;
+/// What follows the word of a field line as a number.
+fn field_of(tail: &[u8]) -> Result<u32, Cause>
+    ensures { MatchResult result
+        (λ d. IsTailNumber tail.now d × IsFieldNumber d)
+        (λ cause. IsFieldBad tail.now cause) }
+{
+    let Some(digits) = tail.strip_prefix(b" ") else {
+        return Err(Cause::BadForm);
+    };
     match natural(digits) {
         Reading::Value(d) if Field::make(d).is_some() => Ok(d),
+        Reading::Value(_) => Err(Cause::BadField),
+        Reading::Large => Err(Cause::BadField),
         Reading::Not => Err(Cause::BadForm),
-        _ => Err(Cause::BadField),
     }
+}
+
+/// The number of a field line.
+fn field_in(line: &[u8]) -> Result<u32, Cause>
+    requires { AllByRecursion IsPrinted line.now }
+    ensures { MatchResult result
+        (λ d. (line.now ≡ line_text (Line.field d)) × IsFieldNumber d)
+        (λ cause. IsLeastOfLine cause (Line.flat ∷ []) line.now) }
+{
+    let (word, tail) = front(line, b' ');
+    if word != b"field".as_slice() {
+        return Err(Cause::BadKind);
+    }
+    Ok(field_of(tail)?)
 }
 
 /// Takes the field line.
@@ -88,11 +119,7 @@ pub(crate) fn field_line(rest: &[u8]) -> Result<(u32, &[u8]), Cause>
         (λ cause. IsLeast cause (Line.flat ∷ []) rest.now) }
 {
     let (line, after) = split_line(rest)?;
-    let (word, tail) = front(line, b' ');
-    if word != b"field".as_slice() {
-        return Err(Cause::BadKind);
-    }
-    Ok((field_of(tail)?, after))
+    Ok((field_in(line)?, after))
 }
 
 /// The point of a base line behind this many base lines.
@@ -114,7 +141,12 @@ fn base_of(tail: &[u8], bases: usize) -> Result<Point, Cause>
 }
 
 /// The polygon of a polygon line behind this many polygon lines.
-fn polygon_of(alloc: Global, tail: &[u8], polygons: usize) -> Result<Polygon, LineFault> {
+fn polygon_of(alloc: Global, tail: &[u8], polygons: usize) -> Result<Polygon, LineFault>
+    requires { StopsAt 32 tail.now }
+    ensures { MatchResult result
+        (λ polygon. AreTheSides tail.now polygon.sides.items × (3 ≤ length polygon.sides.items) × (polygons < 256))
+        (λ fault. IsPolygonRefused tail.now polygons fault) }
+{
     let sides = sides_of(alloc, tail)?;
     if sides.len() < 3 {
         return Err(LineFault::Bad(Cause::FewSides));
@@ -135,23 +167,104 @@ fn is_there(polygons: &[Polygon], name: Name) -> bool
     }
 }
 
-/// The sides that a glue line names, of these polygons.
-fn glue_of(tail: &[u8], polygons: &[Polygon]) -> Result<Glue, Cause> {
-    let text = tail.strip_prefix(b" ").ok_or(Cause::BadForm)?;
-    let (first, tail) = front(text, b' ');
-    let second = tail.strip_prefix(b" ").ok_or(Cause::BadForm)?;
+/// Both sides are there.
+fn are_there(polygons: &[Polygon], glue: Glue) -> bool
+    ensures { IsTrue result ↔ NamesSides (map (λ (polygon : PolygonValue). polygon.sides.items) polygons.now) glue }
+{
+    is_there(
+        polygons,
+        Name {
+            p: glue.p1,
+            e: glue.e1,
+        },
+    ) && is_there(
+        polygons,
+        Name {
+            p: glue.p2,
+            e: glue.e2,
+        },
+    )
+}
+
+/// Reads the names of two sides, each behind a space.
+fn names_of(tail: &[u8]) -> Reading<Glue>
+    ensures { IsReading (IsTailGlue tail.now) IsBoundedGlue result }
+{
+    let Some(text) = tail.strip_prefix(b" ") else {
+        return Reading::Not;
+    };
+    let (first, behind) = front(text, b' ');
+    let Some(second) = behind.strip_prefix(b" ") else {
+        return Reading::Not;
+    };
     match (name_of(first), name_of(second)) {
-        (Reading::Not, _) | (_, Reading::Not) => Err(Cause::BadForm),
-        (Reading::Value(a), Reading::Value(b)) if is_there(polygons, a) && is_there(polygons, b) =>
-            {
-                Ok(Glue {
-                    p1: a.p,
-                    e1: a.e,
-                    p2: b.p,
-                    e2: b.e,
-                })
-            }
-        _ => Err(Cause::BadName),
+        (Reading::Not, _) | (_, Reading::Not) => Reading::Not,
+        (Reading::Value(a), Reading::Value(b)) =>
+            Reading::Value(Glue {
+                p1: a.p,
+                e1: a.e,
+                p2: b.p,
+                e2: b.e,
+            }),
+        _ => Reading::Large,
+    }
+}
+
+/// The sides that a glue line names, of these polygons.
+fn glue_of(tail: &[u8], polygons: &[Polygon]) -> Result<Glue, Cause>
+    requires few { length polygons.now ≤ 256 }
+    requires lengths { AllByRecursion HasFittingLength (map (λ (polygon : PolygonValue). polygon.sides.items) polygons.now) }
+    ensures { MatchResult result
+        (λ g. IsTailGlue tail.now g × NamesSides (map (λ (polygon : PolygonValue). polygon.sides.items) polygons.now) g)
+        (λ cause. IsGlueBad tail.now (map (λ (polygon : PolygonValue). polygon.sides.items) polygons.now) cause) }
+{
+    match names_of(tail) {
+        Reading::Not => Err(Cause::BadForm),
+        Reading::Large => Err(Cause::BadName),
+        Reading::Value(glue) if are_there(polygons, glue) => Ok(glue),
+        Reading::Value(_) => Err(Cause::BadName),
+    }
+}
+
+/// The kind of line that begins with this word, where it may stand.
+fn kind_of(word: &[u8], before_polygons: bool, before_glues: bool) -> Option<Kind>
+    requires { before_polygons ≡ true → before_glues ≡ true }
+    ensures { MatchOption result
+        (¬ (Contains (words_by before_polygons before_glues) word.now))
+        (λ kind. (word.now ≡ word_of_kind kind) × IsOpen before_polygons before_glues kind) }
+{
+    if word == b"base".as_slice() && before_polygons {
+        return Some(Kind::Base);
+    }
+    if word == b"polygon".as_slice() && before_glues {
+        return Some(Kind::Polygon);
+    }
+    if word == b"glue".as_slice() && !before_polygons {
+        return Some(Kind::Glue);
+    }
+    if word == b"end".as_slice() && !before_polygons {
+        return Some(Kind::End);
+    }
+    None
+}
+
+/// What this line says behind the lines of the file so far.
+fn body_line(alloc: Global, file: &SurfaceFile, line: &[u8]) -> Result<BodyLine, LineFault>
+    requires so_far { IsSoFar (content file.now) }
+    requires printed { AllByRecursion IsPrinted line.now }
+    ensures { MatchResult result
+        (λ taken. (line.now ≡ line_text (line_of taken)) × MayFollow (content file.now) (line_of taken))
+        (λ fault. IsBodyRefused (lines_before_end (content file.now)) line.now fault) }
+{
+    let (word, tail) = front(line, b' ');
+    match kind_of(word, file.polygons.is_empty(), file.glues.is_empty()) {
+        Some(Kind::Base) => Ok(BodyLine::Base(base_of(tail, file.bases.len())?)),
+        Some(Kind::Polygon) =>
+            Ok(BodyLine::Polygon(polygon_of(alloc, tail, file.polygons.len())?)),
+        Some(Kind::Glue) => Ok(BodyLine::Glue(glue_of(tail, &file.polygons)?)),
+        Some(Kind::End) if tail.is_empty() => Ok(BodyLine::End),
+        Some(Kind::End) => Err(LineFault::Bad(Cause::BadForm)),
+        None => Err(LineFault::Bad(Cause::BadKind)),
     }
 }
 
@@ -167,27 +280,5 @@ pub(crate) fn next_line<'a>(
         (λ fault. IsLineRefused (lines_before_end (content file.now)) rest.now fault) }
 {
     let (line, after) = split_line(rest)?;
-    let (word, tail) = front(line, b' ');
-    let polygons = file.polygons.as_slice();
-    let before_polygons = polygons.is_empty();
-    let before_glues = file.glues.is_empty();
-    if word == b"base".as_slice() && before_polygons {
-        return Ok((BodyLine::Base(base_of(tail, file.bases.len())?), after));
-    }
-    if word == b"polygon".as_slice() && before_glues {
-        return Ok((
-            BodyLine::Polygon(polygon_of(alloc, tail, polygons.len())?),
-            after,
-        ));
-    }
-    if word == b"glue".as_slice() && !before_polygons {
-        return Ok((BodyLine::Glue(glue_of(tail, polygons)?), after));
-    }
-    if word == b"end".as_slice() && !before_polygons {
-        if !tail.is_empty() {
-            return Err(LineFault::Bad(Cause::BadForm));
-        }
-        return Ok((BodyLine::End, after));
-    }
-    Err(LineFault::Bad(Cause::BadKind))
+    Ok((body_line(alloc, file, line)?, after))
 }
