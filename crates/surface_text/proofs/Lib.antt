@@ -7,3 +7,5 @@ pub mod Written
 pub mod Runs
 pub mod Dots
 pub mod Tails
+pub mod Pairs
+pub mod Openings

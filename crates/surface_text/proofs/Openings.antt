@@ -1,0 +1,23 @@
+-- The words that may stand on a line.
+use Rattle.std.proofs.Common.{◌≡◌, ◌≢◌, ℕ, zero, suc, ◌<◌, Bool, true, false, List, [], ◌∷◌, ◌++◌, length, codes, Contains, refl, ap, sym, ◌∙◌, arith}
+use Rattle.surface_text.specs.Faults.{words_by}
+
+-- the element of a short list
+of_two : {X : Type 0} (a b x : X) → x ≢ a → x ≢ b → ¬ (Contains (a ∷ b ∷ []) x)
+of_two a b x na nb (zero, below, e) = na (sym e)
+of_two a b x na nb (suc zero, below, e) = nb (sym e)
+of_two a b x na nb (suc (suc k), below, e) = absurd (omega arith)
+
+of_three : {X : Type 0} (a b c x : X) → x ≢ a → x ≢ b → x ≢ c → ¬ (Contains (a ∷ b ∷ c ∷ []) x)
+of_three a b c x na nb nc (zero, below, e) = na (sym e)
+of_three a b c x na nb nc (suc zero, below, e) = nb (sym e)
+of_three a b c x na nb nc (suc (suc zero), below, e) = nc (sym e)
+of_three a b c x na nb nc (suc (suc (suc k)), below, e) = absurd (omega arith)
+
+-- a word that no kind has where it may stand
+pub closed : (bare glueless : Bool) (word : List ℕ) → (bare ≡ true → glueless ≡ true)
+    → (bare ≡ true → word ≢ codes "base") → (glueless ≡ true → word ≢ codes "polygon")
+    → (bare ≡ false → word ≢ codes "glue") → (bare ≡ false → word ≢ codes "end") → ¬ (Contains (words_by bare glueless) word)
+closed true glueless word order base polygon glue end = of_two (codes "base") (codes "polygon") word (base refl) (polygon (order refl))
+closed false true word order base polygon glue end = of_three (codes "polygon") (codes "glue") (codes "end") word (polygon refl) (glue refl) (end refl)
+closed false false word order base polygon glue end = of_two (codes "glue") (codes "end") word (glue refl) (end refl)
