@@ -9,3 +9,4 @@ pub mod Dots
 pub mod Tails
 pub mod Pairs
 pub mod Openings
+pub mod Least

@@ -1,5 +1,9 @@
 -- The words that may stand on a line.
-use Rattle.std.proofs.Common.{◌≡◌, ◌≢◌, ℕ, zero, suc, ◌<◌, Bool, true, false, List, [], ◌∷◌, ◌++◌, length, codes, Contains, refl, ap, sym, ◌∙◌, arith}
+use Rattle.std.proofs.Common.{◌≡◌, ◌≢◌, ◌⊎◌, inl, inr, ℕ, zero, suc, ◌<◌, Bool, true, false, List, [], ◌∷◌, ◌++◌, length, codes, eqb, Contains, refl, ap, sym, ◌∙◌, arith}
+use Rattle.std.specs.Cmp.Lexicographic.{pointwise}
+use Rattle.std.proofs.lemmas.Bool.{true≢false}
+use Rattle.std.proofs.lemmas.Bool.Decides.{Decides-eqb}
+use Rattle.std.proofs.lemmas.Slice.Eq.{slice_eq-Decides}
 use Rattle.surface_text.specs.Faults.{words_by}
 
 -- the element of a short list
@@ -21,3 +25,9 @@ pub closed : (bare glueless : Bool) (word : List ℕ) → (bare ≡ true → glu
 closed true glueless word order base polygon glue end = of_two (codes "base") (codes "polygon") word (base refl) (polygon (order refl))
 closed false true word order base polygon glue end = of_three (codes "polygon") (codes "glue") (codes "end") word (polygon refl) (glue refl) (end refl)
 closed false false word order base polygon glue end = of_two (codes "glue") (codes "end") word (glue refl) (end refl)
+
+-- a word that was compared isn't this one where the other test holds
+pub not_word : (r b t u : Bool) (word s w : List ℕ) → t ≢ u → ((r ≡ true) × (b ≡ u)) ⊎ (r ≡ false) → r ≡ pointwise eqb word s → s ≡ w → b ≡ t → word ≢ w
+not_word r b t u word s w apart either is spelled stands e =
+    let yes : r ≡ true = (slice_eq-Decides Decides-eqb word s r is).1 (e ∙ sym spelled) in
+    elim either [ inl h ↦ apart (sym stands ∙ h.1) | inr h ↦ true≢false (sym yes ∙ h) ]
