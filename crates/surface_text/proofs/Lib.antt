@@ -10,3 +10,4 @@ pub mod Tails
 pub mod Pairs
 pub mod Openings
 pub mod Least
+pub mod Bodies

@@ -1,5 +1,5 @@
 -- The words that may stand on a line.
-use Rattle.std.proofs.Common.{◌≡◌, ◌≢◌, ◌⊎◌, inl, inr, ℕ, zero, suc, ◌<◌, Bool, true, false, List, [], ◌∷◌, ◌++◌, length, codes, eqb, Contains, refl, ap, sym, ◌∙◌, arith}
+use Rattle.std.proofs.Common.{◌≡◌, ◌≢◌, ◌⊎◌, inl, inr, ℕ, zero, suc, ◌<◌, Bool, true, false, List, [], ◌∷◌, ◌++◌, length, codes, eqb, not, Contains, refl, ap, sym, ◌∙◌, arith}
 use Rattle.std.specs.Cmp.Lexicographic.{pointwise}
 use Rattle.std.proofs.lemmas.Bool.{true≢false}
 use Rattle.std.proofs.lemmas.Bool.Decides.{Decides-eqb}
@@ -31,3 +31,18 @@ pub not_word : (r b t u : Bool) (word s w : List ℕ) → t ≢ u → ((r ≡ tr
 not_word r b t u word s w apart either is spelled stands e =
     let yes : r ≡ true = (slice_eq-Decides Decides-eqb word s r is).1 (e ∙ sym spelled) in
     elim either [ inl h ↦ apart (sym stands ∙ h.1) | inr h ↦ true≢false (sym yes ∙ h) ]
+
+-- a word that was found to differ
+pub differs : (r : Bool) (word s w : List ℕ) → r ≡ not (pointwise eqb word s) → r ≡ true → s ≡ w → word ≢ w
+differs r word s w is true_one spelled e =
+    let same : pointwise eqb word s ≡ true = (slice_eq-Decides Decides-eqb word s (pointwise eqb word s) refl).1 (e ∙ sym spelled) in
+    true≢false (sym true_one ∙ is ∙ ap not same)
+
+-- a word that was found to be the same
+pub same_word : (r : Bool) (word s w : List ℕ) → r ≡ not (pointwise eqb word s) → r ≡ false → s ≡ w → word ≡ w
+same_word r word s w is false_one spelled =
+    (slice_eq-Decides Decides-eqb word s (pointwise eqb word s) refl).0 (unnot (pointwise eqb word s) (sym is ∙ false_one)) ∙ spelled
+  where
+    unnot : (b : Bool) → not b ≡ false → b ≡ true
+    unnot true e = refl
+    unnot false e = absurd (true≢false e)

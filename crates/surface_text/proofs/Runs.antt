@@ -30,7 +30,7 @@ vector_text_lacks v =
     (lacks_both 32 (quad_text v.s) (44 ∷ []) (quad_text_lacks v.s) (λ e. omega arith, tt)) (quad_text_lacks v.t)
 
 -- sides are none or begin with a space
-sides_stop : (sides : List Vec2) → StopsAt 32 (sides_text sides)
+pub sides_stop : (sides : List Vec2) → StopsAt 32 (sides_text sides)
 sides_stop [] = tt
 sides_stop (v ∷ sides) = refl
 
