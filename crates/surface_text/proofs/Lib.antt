@@ -11,3 +11,4 @@ pub mod Pairs
 pub mod Openings
 pub mod Least
 pub mod Bodies
+pub mod Behind
