@@ -3,21 +3,42 @@ use Rattle.std.proofs.Common.{◌≡◌, ◌≢◌, ℕ, zero, suc, ◌+◌, ◌
 use Rattle.std.specs.Bool.{◌==◌}
 use Rattle.std.specs.List.{AllByRecursion}
 use Rattle.std.proofs.lemmas.Bool.{true≢false}
+use Rattle.std.proofs.lemmas.Bool.Decides.{nat_tests}
 use Rattle.std.proofs.lemmas.List.{append-nil}
 use Rattle.plane.specs.declared.vec2.Vec2.{Vec2}
 use Rattle.surface_text.specs.declared.file.Point.{Point}
 use Rattle.surface_text.specs.declared.file.Glue.{Glue}
 use Rattle.surface_text.specs.declared.file.Polygon.{Polygon}
 use Rattle.surface_text.specs.declared.file.SurfaceFile.{SurfaceFile}
+use Rattle.surface_text.specs.declared.sides.LineFault.{LineFault}
+use Rattle.surface_text.specs.declared.sides.LineFault.TheVariants as faults
 use Rattle.surface_text.specs.declared.lines.Kind.{Kind}
 use Rattle.surface_text.specs.declared.lines.Kind.TheVariants as kinds
 use Rattle.surface_text.specs.Spelling.{Line, Content, content, lines_before_end}
 use Rattle.surface_text.specs.Spelling.Line.{flat, field, base, polygon, glue, end}
 use Rattle.surface_text.specs.Limits.{NamesSides}
-use Rattle.surface_text.specs.Causes.{FrontOf, words_behind, words_after, IsWanted, IsPrinted, base_lines, polygons_in}
-use Rattle.surface_text.specs.Lines.{IsSoFar}
-use Rattle.surface_text.specs.Faults.{word_of_kind, words_by, IsOpen}
-use Rattle.surface_text.proofs.Bodies.{Standing}
+use Rattle.surface_text.specs.Causes.{FrontOf, words_behind, words_after, IsWanted, IsNextLine, IsPrinted, base_lines, polygons_in}
+use Rattle.surface_text.specs.Lines.{IsSoFar, IsLineRefused}
+use Rattle.surface_text.specs.Faults.{word_of_kind, words_by, IsOpen, IsBodyRefused, IsPolygonRefused}
+use Rattle.surface_text.proofs.Bodies.{Standing, polygon_bad}
+use Rattle.surface_text.proofs.Least.{least_next}
+
+-- whether there is none
+abbrev pub Tells : {X : Type 0} → Bool → List X → Type 0
+Tells b [] = b ≡ true
+Tells b (x ∷ xs) = b ≡ false
+
+not_zero : (n : ℕ) → (suc n == 0) ≡ false
+not_zero n = grind (arith, nat_tests)
+
+-- whether the length is 0
+pub tells : {X : Type 0} (xs : List X) (n : ℕ) (b : Bool) → b ≡ (n == 0) → n ≡ length xs → Tells b xs
+tells [] n b e is = e ∙ ap (λ (m : ℕ). m == 0) is
+tells (x ∷ xs) n b e is = e ∙ ap (λ (m : ℕ). m == 0) is ∙ not_zero (length xs)
+
+tells_map : {X Y : Type 0} (f : X → Y) (xs : List X) (b : Bool) → Tells b xs → Tells b (map f xs)
+tells_map f [] b is = is
+tells_map f (x ∷ xs) b is = is
 
 -- the words behind the last of these lines
 words_more : (xs : List Line) (y : Line) (ys : List Line) → words_after (xs ++ y ∷ ys) ≡ words_after (y ∷ ys)
@@ -51,7 +72,7 @@ glues_none g gs all =
     omega arith
 
 -- the words that may stand behind the lines of these parts
-parts_words : (d : ℕ) (bs : List Point) (ps : List (List Vec2)) (gs : List Glue) (bare glueless : Bool) → bare ≡ (length ps == 0) → glueless ≡ (length gs == 0)
+parts_words : (d : ℕ) (bs : List Point) (ps : List (List Vec2)) (gs : List Glue) (bare glueless : Bool) → Tells bare ps → Tells glueless gs
     → AllByRecursion (NamesSides ps) gs → words_after (lines_by d bs ps gs) ≡ words_by bare glueless
 parts_words d bs [] [] bare glueless b g all =
     ap (λ (xs : List Line). words_after (flat ∷ field d ∷ xs)) (append-nil (map base bs)) ∙ bases_words (field d) bs refl
@@ -67,7 +88,7 @@ parts_words d bs (p ∷ ps) (h ∷ gs) bare glueless b g all =
     ∙ ap (λ (x : Bool). words_by false x) (sym g) ∙ ap (λ (x : Bool). words_by x glueless) (sym b)
 
 -- where no polygon is, no glue is
-parts_order : (ps : List (List Vec2)) (gs : List Glue) (bare glueless : Bool) → bare ≡ (length ps == 0) → glueless ≡ (length gs == 0)
+parts_order : (ps : List (List Vec2)) (gs : List Glue) (bare glueless : Bool) → Tells bare ps → Tells glueless gs
     → AllByRecursion (NamesSides ps) gs → bare ≡ true → glueless ≡ true
 parts_order [] [] bare glueless b g all is = g
 parts_order [] (h ∷ gs) bare glueless b g all is = absurd (glues_none h gs all)
@@ -78,7 +99,7 @@ parts_bases : (bs : List Point) (ps : List (List Vec2)) (gs : List Glue) → bas
 parts_bases [] [] [] = refl
 parts_bases [] [] (g ∷ gs) = parts_bases [] [] gs
 parts_bases [] (p ∷ ps) gs = parts_bases [] ps gs
-parts_bases (b ∷ bs) ps gs = ap (λ (n : ℕ). n + 1) (parts_bases bs ps gs)
+parts_bases (b ∷ bs) ps gs = let rest = parts_bases bs ps gs in omega arith
 
 -- the polygons of the polygon lines are those of the file
 parts_polygons : (bs : List Point) (ps : List (List Vec2)) (gs : List Glue) → polygons_in (map base bs ++ (map polygon ps ++ map glue gs)) ≡ ps
@@ -101,15 +122,15 @@ length_map f (x ∷ xs) = ap suc (length_map f xs)
 pub file_count : (file : SurfaceFile) → length (polygons_in (lines_before_end (content file))) ≡ length file.polygons.items
 file_count file = ap length (file_polygons file) ∙ length_map (λ (p : Polygon). p.sides.items) file.polygons.items
 
-bare_of : (file : SurfaceFile) (bare : Bool) → bare ≡ (length file.polygons.items == 0) → bare ≡ (length (map (λ (p : Polygon). p.sides.items) file.polygons.items) == 0)
-bare_of file bare b = b ∙ ap (λ (n : ℕ). n == 0) (sym (length_map (λ (p : Polygon). p.sides.items) file.polygons.items))
+bare_of : (file : SurfaceFile) (bare : Bool) → Tells bare file.polygons.items → Tells bare (map (λ (p : Polygon). p.sides.items) file.polygons.items)
+bare_of file bare b = tells_map (λ (p : Polygon). p.sides.items) file.polygons.items bare b
 
-pub file_order : (file : SurfaceFile) (bare glueless : Bool) → IsSoFar (content file) → bare ≡ (length file.polygons.items == 0) → glueless ≡ (length file.glues.items == 0)
+pub file_order : (file : SurfaceFile) (bare glueless : Bool) → IsSoFar (content file) → Tells bare file.polygons.items → Tells glueless file.glues.items
     → bare ≡ true → glueless ≡ true
 file_order file bare glueless so_far b g =
     parts_order (map (λ (p : Polygon). p.sides.items) file.polygons.items) file.glues.items bare glueless (bare_of file bare b) g so_far.glues
 
-pub file_words : (file : SurfaceFile) (bare glueless : Bool) → IsSoFar (content file) → bare ≡ (length file.polygons.items == 0) → glueless ≡ (length file.glues.items == 0)
+pub file_words : (file : SurfaceFile) (bare glueless : Bool) → IsSoFar (content file) → Tells bare file.polygons.items → Tells glueless file.glues.items
     → words_after (lines_before_end (content file)) ≡ words_by bare glueless
 file_words file bare glueless so_far b g =
     parts_words file.field file.bases.items (map (λ (p : Polygon). p.sides.items) file.polygons.items) file.glues.items bare glueless (bare_of file bare b) g so_far.glues
@@ -130,8 +151,8 @@ opened false false kinds.Glue word order e stands = (0, omega arith, sym e)
 opened false false kinds.End word order e stands = (1, omega arith, sym e)
 
 -- a line that begins with the word of a kind that may stand
-pub file_stands : (file : SurfaceFile) (bare glueless : Bool) {bytes word tail : List ℕ} (kind : Kind) → IsSoFar (content file) → bare ≡ (length file.polygons.items == 0)
-    → glueless ≡ (length file.glues.items == 0) → AllByRecursion IsPrinted bytes → FrontOf 32 bytes word tail → word ≡ word_of_kind kind → IsOpen bare glueless kind
+pub file_stands : (file : SurfaceFile) (bare glueless : Bool) {bytes word tail : List ℕ} (kind : Kind) → IsSoFar (content file) → Tells bare file.polygons.items
+    → Tells glueless file.glues.items → AllByRecursion IsPrinted bytes → FrontOf 32 bytes word tail → word ≡ word_of_kind kind → IsOpen bare glueless kind
     → Standing (lines_before_end (content file)) bytes word tail (word_of_kind kind)
 file_stands file bare glueless {word = word} kind so_far b g printed front e stands =
     record {
@@ -144,12 +165,12 @@ file_stands file bare glueless {word = word} kind so_far b g printed front e sta
     }
 
 -- what may not stand behind the lines of a file
-pub file_closed : (file : SurfaceFile) (bare glueless : Bool) (word : List ℕ) → IsSoFar (content file) → bare ≡ (length file.polygons.items == 0)
-    → glueless ≡ (length file.glues.items == 0) → ¬ (Contains (words_by bare glueless) word) → ¬ (Contains (words_after (lines_before_end (content file))) word)
+pub file_closed : (file : SurfaceFile) (bare glueless : Bool) (word : List ℕ) → IsSoFar (content file) → Tells bare file.polygons.items
+    → Tells glueless file.glues.items → ¬ (Contains (words_by bare glueless) word) → ¬ (Contains (words_after (lines_before_end (content file))) word)
 file_closed file bare glueless word so_far b g not held = not (subst (λ (ws : List (List ℕ)). Contains ws word) (file_words file bare glueless so_far b g) held)
 
 -- there is none
-pub none_from : {X : Type 0} (xs : List X) (b : Bool) → b ≡ (length xs == 0) → b ≡ true → xs ≡ []
+pub none_from : {X : Type 0} (xs : List X) (b : Bool) → Tells b xs → b ≡ true → xs ≡ []
 none_from [] b is yes_one = refl
 none_from (x ∷ xs) b is yes_one = absurd (true≢false (sym yes_one ∙ is))
 
@@ -158,12 +179,25 @@ some_words true glueless e = absurd (cc)
 some_words false true e = absurd (cc)
 some_words false false e = absurd (cc)
 
-bool_of : (n : ℕ) → (b : Bool) × (b ≡ (n == 0))
-bool_of n = (n == 0, refl)
+bool_of : {X : Type 0} (xs : List X) → (b : Bool) × Tells b xs
+bool_of [] = (true, refl)
+bool_of (x ∷ xs) = (false, refl)
 
 -- a further line is wanted
 pub file_wanted : (file : SurfaceFile) → IsSoFar (content file) → IsWanted (lines_before_end (content file))
 file_wanted file so_far nothing =
-    let b = bool_of (length file.polygons.items) in
-    let g = bool_of (length file.glues.items) in
+    let b = bool_of file.polygons.items in
+    let g = bool_of file.glues.items in
     some_words b.0 g.0 (sym (file_words file b.0 g.0 so_far b.1 g.1) ∙ nothing)
+
+-- a refusal of the next line is one of the rest
+pub refused_next : (fault : LineFault) (before : List Line) {rest bytes after : List ℕ} → IsWanted before → IsNextLine rest bytes after → IsBodyRefused before bytes fault
+    → IsLineRefused before rest fault
+refused_next (faults.Bad cause) before wanted next refused = least_next cause before wanted next refused
+refused_next faults.Memory before wanted next refused = tt
+
+-- a polygon line that is refused, or for which memory is wanting
+pub polygon_refused : (before : List Line) (bytes word tail : List ℕ) (count : ℕ) → Standing before bytes word tail (codes "polygon") → length (polygons_in before) ≡ count
+    → (fault : LineFault) → IsPolygonRefused tail count fault → IsBodyRefused before bytes fault
+polygon_refused before bytes word tail count s counted (faults.Bad cause) refused = polygon_bad before bytes word tail count s counted cause refused
+polygon_refused before bytes word tail count s counted faults.Memory refused = tt
