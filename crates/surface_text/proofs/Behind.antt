@@ -201,3 +201,7 @@ pub polygon_refused : (before : List Line) (bytes word tail : List ℕ) (count :
     → (fault : LineFault) → IsPolygonRefused tail count fault → IsBodyRefused before bytes fault
 polygon_refused before bytes word tail count s counted (faults.Bad cause) refused = polygon_bad before bytes word tail count s counted cause refused
 polygon_refused before bytes word tail count s counted faults.Memory refused = tt
+
+-- bytes whose length isn't 0
+pub some_bytes : (bytes : List ℕ) → false ≡ (length bytes == 0) → bytes ≢ []
+some_bytes bytes is e = true≢false (sym (is ∙ ap (λ (xs : List ℕ). length xs == 0) e))
