@@ -1,5 +1,5 @@
 -- What may stand behind the lines of a file so far.
-use Rattle.std.proofs.Common.{◌≡◌, ◌≢◌, ℕ, zero, suc, ◌+◌, ◌<◌, ◌≤◌, Bool, true, false, List, [], ◌∷◌, ◌++◌, length, map, codes, Contains, refl, ap, sym, ◌∙◌, subst, arith}
+use Rattle.std.proofs.Common.{◌≡◌, ◌≢◌, ℕ, suc, Bool, true, false, List, [], ◌∷◌, ◌++◌, length, map, codes, Contains, refl, ap, sym, ◌∙◌, subst, arith}
 use Rattle.std.specs.Bool.{◌==◌}
 use Rattle.std.specs.List.{AllByRecursion}
 use Rattle.std.proofs.lemmas.Bool.{true≢false}
@@ -14,8 +14,8 @@ use Rattle.surface_text.specs.declared.sides.LineFault.{LineFault}
 use Rattle.surface_text.specs.declared.sides.LineFault.TheVariants as faults
 use Rattle.surface_text.specs.declared.lines.Kind.{Kind}
 use Rattle.surface_text.specs.declared.lines.Kind.TheVariants as kinds
-use Rattle.surface_text.specs.Spelling.{Line, Content, content, lines_before_end}
-use Rattle.surface_text.specs.Spelling.Line.{flat, field, base, polygon, glue, end}
+use Rattle.surface_text.specs.Spelling.{Line, content, lines_before_end}
+use Rattle.surface_text.specs.Spelling.Line.{flat, field, base, polygon, glue}
 use Rattle.surface_text.specs.Limits.{NamesSides}
 use Rattle.surface_text.specs.Causes.{FrontOf, words_behind, words_after, IsWanted, IsNextLine, IsPrinted, base_lines, polygons_in}
 use Rattle.surface_text.specs.Lines.{IsSoFar, IsLineRefused}

@@ -1,7 +1,6 @@
 -- The lines that bytes spell, by their word, and what each kind of line is refused for.
-use Rattle.std.proofs.Common.{◌≡◌, ◌≢◌, ℕ, zero, suc, ◌+◌, ◌<◌, ◌≤◌, List, [], ◌∷◌, ◌++◌, length, get_or, codes, Contains, refl, ap, sym, ◌∙◌, subst, arith}
+use Rattle.std.proofs.Common.{◌≡◌, ◌≢◌, ℕ, List, [], ◌++◌, length, get_or, codes, Contains, refl, ap, sym, ◌∙◌, subst, arith}
 use Rattle.std.specs.List.{AllByRecursion}
-use Rattle.quad_field.specs.FieldNumber.{IsFieldNumber}
 use Rattle.plane.specs.declared.vec2.Vec2.{Vec2}
 use Rattle.surface_text.specs.declared.file.Point.{Point}
 use Rattle.surface_text.specs.declared.file.Glue.{Glue}
@@ -9,8 +8,8 @@ use Rattle.surface_text.specs.declared.cause.Cause.{Cause}
 use Rattle.surface_text.specs.declared.cause.Cause.TheVariants.{NoLine, CutLine, BadByte, BadFirst, BadKind, BadForm, BadNumber, BadField, BadBase, ManyBases, FewSides, ManyPolygons, BadName, AfterEnd}
 use Rattle.surface_text.specs.Spelling.{Line, word_of, tail_of, line_text}
 use Rattle.surface_text.specs.Spelling.Line.{flat, field, base, polygon, glue, end}
-use Rattle.surface_text.specs.Limits.{IsBoundedPoint, IsAbove, NamesSides}
-use Rattle.surface_text.specs.Causes.{FrontOf, StopsAt, words_after, IsPrinted, HasForm, IsLine, HasBoundedNumbers, IsWrong, base_lines, polygons_in}
+use Rattle.surface_text.specs.Limits.{IsBoundedPoint, NamesSides}
+use Rattle.surface_text.specs.Causes.{FrontOf, StopsAt, words_after, IsPrinted, IsLine, HasBoundedNumbers, IsWrong, base_lines, polygons_in}
 use Rattle.surface_text.specs.Readings.{IsTheOne, IsTailPoint}
 use Rattle.surface_text.specs.Sides.{AreSides}
 use Rattle.surface_text.specs.Bases.{IsBaseBad}
@@ -18,7 +17,7 @@ use Rattle.surface_text.specs.Faults.{IsLeastOfLine, IsTailNumber, IsFieldBad, A
 use Rattle.surface_text.proofs.Stops.{same_front}
 use Rattle.surface_text.proofs.Runs.{sides_stop}
 use Rattle.surface_text.proofs.Numbers.{Lacks}
-use Rattle.surface_text.proofs.Least.{IsFreeBelow, free_next, free_word, free_formed, form_bad}
+use Rattle.surface_text.proofs.Least.{IsFreeBelow, free_next, free_formed, form_bad}
 
 -- no word has a space
 word_lacks : (line : Line) → Lacks 32 (word_of line)

@@ -1,15 +1,13 @@
 -- The least cause of a line: the causes below a number are ruled out one after another.
-use Rattle.std.proofs.Common.{◌≡◌, ◌≢◌, ℕ, zero, suc, ◌+◌, ◌<◌, ◌≤◌, ◌⊎◌, inl, inr, List, [], ◌∷◌, ◌++◌, length, get_or, codes, Contains, refl, ap, sym, ◌∙◌, subst, arith}
+use Rattle.std.proofs.Common.{◌≡◌, ◌≢◌, ℕ, ◌+◌, ◌<◌, ◌≤◌, inl, inr, List, [], ◌∷◌, ◌++◌, get_or, codes, Contains, refl, ap, sym, ◌∙◌, subst, arith}
 use Rattle.std.specs.List.{AllByRecursion}
 use Rattle.std.proofs.lemmas.Bool.{cases_lt}
-use Rattle.plane.specs.Spelling.{natural_text}
 use Rattle.surface_text.specs.declared.cause.Cause.{Cause}
 use Rattle.surface_text.specs.declared.cause.Cause.TheVariants.{NoLine, CutLine, BadByte, BadFirst, BadKind, BadForm, BadNumber, BadField, BadBase, ManyBases, FewSides, ManyPolygons, BadName, AfterEnd}
-use Rattle.surface_text.specs.Spelling.{Line, line_text}
-use Rattle.surface_text.specs.Causes.{number_of, FrontOf, StopsAt, words_after, IsWanted, IsPrinted, IsLine, HoldsOfLine, HoldsOfNext, Holds, IsLeast, IsNextLine, IsNoNextLine}
+use Rattle.surface_text.specs.Spelling.{Line}
+use Rattle.surface_text.specs.Causes.{number_of, FrontOf, words_after, IsWanted, IsPrinted, IsLine, HoldsOfLine, HoldsOfNext, Holds, IsLeast, IsNextLine, IsNoNextLine}
 use Rattle.surface_text.specs.Faults.{IsLeastOfLine}
 use Rattle.surface_text.proofs.Stops.{same_front}
-use Rattle.surface_text.proofs.Numbers.{Lacks}
 
 -- the cause of a number
 abbrev cause_at : ℕ → Cause
@@ -83,8 +81,8 @@ pub free_word : (before : List Line) (bytes : List ℕ) {word tail : List ℕ} �
 free_word before bytes some printed front stands =
     free_next before bytes BadKind (free_later before bytes some printed)
     (λ held. let other = held.2 in
-      let same = same_front front held.0 held.1 other.lacks other.stops other.found in
-      held.3 (subst (Contains (words_after before)) same.0 stands))
+    let same = same_front front held.0 held.1 other.lacks other.stops other.found in
+    held.3 (subst (Contains (words_after before)) same.0 stands))
 
 -- a line in its form
 pub free_formed : (before : List Line) (bytes : List ℕ) {word tail : List ℕ} → before ≢ [] → AllByRecursion IsPrinted bytes → FrontOf 32 bytes word tail

@@ -1,16 +1,12 @@
 -- The names of two sides, put together of them.
-use Rattle.std.proofs.Common.{◌≡◌, ◌≢◌, ℕ, ◌≤◌, ◌<◌, List, [], ◌∷◌, ◌++◌, length, map, get_or, zero, suc, refl, ap, sym, ◌∙◌, arith, append_assoc}
-use Rattle.std.specs.List.{AllByRecursion}
-use Rattle.plane.specs.declared.vec2.Vec2.{Vec2}
+use Rattle.std.proofs.Common.{◌≡◌, ◌≢◌, ℕ, List, [], ◌∷◌, ◌++◌, refl, ap, sym, ◌∙◌, arith, append_assoc}
 use Rattle.plane.specs.Spelling.{natural_text}
 use Rattle.surface_text.specs.declared.file.Glue.{Glue}
 use Rattle.surface_text.specs.declared.names.Name.{Name}
 use Rattle.surface_text.specs.Spelling.{glue_text}
-use Rattle.surface_text.specs.Limits.{IsThere, NamesSides}
 use Rattle.surface_text.specs.Causes.{FrontOf}
 use Rattle.surface_text.specs.Readings.{IsTheOne, IsOneBeyond}
 use Rattle.surface_text.specs.Names.{name_text, IsNameOf, IsBoundedName}
-use Rattle.surface_text.specs.Lines.{HasFittingLength}
 use Rattle.surface_text.specs.Faults.{IsTailGlue, IsBoundedGlue}
 use Rattle.surface_text.proofs.Stops.{same_front}
 use Rattle.surface_text.proofs.Numbers.{Lacks, lacks_both, natural_text_lacks}
@@ -111,23 +107,3 @@ glue_one_word {text = text} head front none g is =
     let own : text ≡ glue_text g = behind_space text g (sym head ∙ is) in
     let same = same_front front (name_text (first_of g)) (32 ∷ name_text (second_of g)) (name_lacks (first_of g)) refl (own ∙ glue_shape g) in
     none (name_text (second_of g)) same.1
-
--- each side that is there has a bounded name
-length_at : (polygons : List (List Vec2)) (p : ℕ) → AllByRecursion HasFittingLength polygons → p < length polygons → length (get_or polygons p []) ≤ 1048576
-length_at [] p all below = absurd (omega arith)
-length_at (s ∷ polygons) zero all below = all.0
-length_at (s ∷ polygons) (suc p) all below = length_at polygons p all.1 (omega arith)
-
-there_bounded : (polygons : List (List Vec2)) (p e : ℕ) → length polygons ≤ 256 → AllByRecursion HasFittingLength polygons → IsThere polygons p e
-    → (p ≤ 1000000000) × (e ≤ 1000000000)
-there_bounded polygons p e few all there =
-    let short = length_at polygons p all there.0 in
-    let side = there.1 in
-    let polygon = there.0 in
-    (omega arith, omega arith)
-
-pub sides_bounded : (polygons : List (List Vec2)) (g : Glue) → length polygons ≤ 256 → AllByRecursion HasFittingLength polygons → NamesSides polygons g → IsBoundedGlue g
-sides_bounded polygons g few all there =
-    let one = there_bounded polygons g.p1 g.e1 few all there.0 in
-    let two = there_bounded polygons g.p2 g.e2 few all there.1 in
-    (one.0, one.1, two.0, two.1)

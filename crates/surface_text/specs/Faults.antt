@@ -1,5 +1,5 @@
 -- What a single line is refused for.
-use Rattle.std.specs.Prelude.{◌≡◌, ◌≢◌, ℕ, ◌≤◌, ◌<◌, Bool, true, false, List, [], ◌∷◌, ◌++◌, length, codes, ⊤}
+use Rattle.std.specs.Prelude.{◌≡◌, ℕ, ◌≤◌, ◌<◌, Bool, true, false, List, [], ◌∷◌, ◌++◌, length, codes, ⊤}
 use Rattle.std.specs.List.{AllByRecursion}
 use Rattle.quad_field.specs.FieldNumber.{IsFieldNumber}
 use Rattle.plane.specs.declared.vec2.Vec2.{Vec2}

@@ -3,12 +3,11 @@ use Rattle.std.specs.Prelude.{◌≡◌, ◌≤◌, ◌<◌, ℕ, List, [], ◌�
 use Rattle.std.specs.List.{AllByRecursion}
 use Rattle.quad_field.specs.FieldNumber.{IsFieldNumber}
 use Rattle.plane.specs.declared.vec2.Vec2.{Vec2}
-use Rattle.surface_text.specs.declared.cause.Cause.{Cause}
 use Rattle.surface_text.specs.declared.lines.BodyLine.{BodyLine}
 use Rattle.surface_text.specs.declared.lines.BodyLine.TheVariants as body_lines
 use Rattle.surface_text.specs.declared.sides.LineFault.{LineFault}
 use Rattle.surface_text.specs.declared.sides.LineFault.TheVariants as faults
-use Rattle.surface_text.specs.Spelling.{Line, Content, line_text, lines_before_end}
+use Rattle.surface_text.specs.Spelling.{Line, Content, line_text}
 use Rattle.surface_text.specs.Limits.{IsBasePoint, IsPolygon, NamesSides}
 use Rattle.surface_text.specs.Causes.{IsLeast}
 

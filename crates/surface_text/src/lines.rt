@@ -199,13 +199,12 @@ fn names_of(tail: &[u8]) -> Reading<Glue>
     };
     match (name_of(first), name_of(second)) {
         (Reading::Not, _) | (_, Reading::Not) => Reading::Not,
-        (Reading::Value(a), Reading::Value(b)) =>
-            Reading::Value(Glue {
-                p1: a.p,
-                e1: a.e,
-                p2: b.p,
-                e2: b.e,
-            }),
+        (Reading::Value(a), Reading::Value(b)) => Reading::Value(Glue {
+            p1: a.p,
+            e1: a.e,
+            p2: b.p,
+            e2: b.e,
+        }),
         _ => Reading::Large,
     }
 }
@@ -259,8 +258,7 @@ fn body_line(alloc: Global, file: &SurfaceFile, line: &[u8]) -> Result<BodyLine,
     let (word, tail) = front(line, b' ');
     match kind_of(word, file.polygons.is_empty(), file.glues.is_empty()) {
         Some(Kind::Base) => Ok(BodyLine::Base(base_of(tail, file.bases.len())?)),
-        Some(Kind::Polygon) =>
-            Ok(BodyLine::Polygon(polygon_of(alloc, tail, file.polygons.len())?)),
+        Some(Kind::Polygon) => Ok(BodyLine::Polygon(polygon_of(alloc, tail, file.polygons.len())?)),
         Some(Kind::Glue) => Ok(BodyLine::Glue(glue_of(tail, &file.polygons)?)),
         Some(Kind::End) if tail.is_empty() => Ok(BodyLine::End),
         Some(Kind::End) => Err(LineFault::Bad(Cause::BadForm)),

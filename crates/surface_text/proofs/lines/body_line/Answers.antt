@@ -1,4 +1,4 @@
-use Rattle.std.proofs.Common.{◌≡◌, ℕ, List, ◌++◌, map, Bool, sym, ◌∙◌, ap, subst, arith, refl}
+use Rattle.std.proofs.Common.{◌≡◌, map, sym, ◌∙◌, ap, subst, arith}
 use Rattle.std.proofs.lemmas.Result.{err_from_is_err_and}
 use Rattle.surface_text.specs.Spelling.{Line, content, lines_before_end}
 use Rattle.surface_text.specs.declared.file.Polygon.{Polygon}
@@ -6,7 +6,7 @@ use Rattle.surface_text.specs.declared.lines.Kind.{Kind}
 use Rattle.surface_text.specs.declared.lines.Kind.TheVariants as kinds
 use Rattle.surface_text.specs.Faults.{word_of_kind, IsOpen}
 use Rattle.surface_text.proofs.Least.{kind_bad}
-use Rattle.surface_text.proofs.Bodies.{line_joined, base_bad, polygon_bad, glue_bad, end_bad}
+use Rattle.surface_text.proofs.Bodies.{line_joined, base_bad, glue_bad, end_bad}
 use Rattle.surface_text.proofs.Behind.{tells, polygon_refused, file_bases, file_polygons, file_count, file_order, file_stands, file_closed, none_from, some_bytes}
 use Rattle.surface_text.proofs.lines.body_line.Goals as goal
 
@@ -78,7 +78,7 @@ returns-in_err-glue_of-in-Some-Glue c =
     let is = subst (λ (k : Kind). (word ≡ word_of_kind k) × IsOpen bare glueless k) c.in-Some-Glue.field-0-is c.in-Some-Glue.ensures in
     let s = file_stands file bare glueless kinds.Glue c.requires.so_far b g c.requires.printed c.front.ensures is.0 is.1 in
     rw (p.1, p.2) (glue_bad (lines_before_end (content file)) c.args.line.now word tail _ s
-      (file_polygons file ∙ ap (map (λ (polygon : Polygon). polygon.sides.items)) (sym c.deref.ensures.value)) _ c.in_err-glue_of-in-Some-Glue.ensures)
+    (file_polygons file ∙ ap (map (λ (polygon : Polygon). polygon.sides.items)) (sym c.deref.ensures.value)) _ c.in_err-glue_of-in-Some-Glue.ensures)
 
 pub returns-in_ok-base_of-in-Some-Base : goal.returns-in_ok-base_of-in-Some-Base
 returns-in_ok-base_of-in-Some-Base c =
@@ -93,8 +93,7 @@ returns-in_ok-base_of-in-Some-Base c =
     let taken = c.in_ok-base_of-in-Some-Base.ensures in
     let one = taken.0 in
     let few = taken.2 in
-    let count = c.len.ensures ∙ file.bases.ok.0 in
-    (
+    let count = c.len.ensures ∙ file.bases.ok.0 in (
       line_joined c.front.ensures (Line.base at) is.0 one.found.0,
       (
         ap (map (λ (polygon : Polygon). polygon.sides.items)) (none_from file.polygons.items bare b is.1),

@@ -1,4 +1,4 @@
-use Rattle.std.proofs.Common.{◌≡◌, codes, []}
+use Rattle.std.proofs.Common.{codes, []}
 use Rattle.std.proofs.lemmas.Result.{err_from_is_err_and}
 use Rattle.surface_text.specs.declared.cause.Cause.TheVariants.{BadFirst}
 use Rattle.surface_text.proofs.Openings.{differs}

@@ -1,4 +1,4 @@
-use Rattle.std.proofs.Common.{◌≡◌, true, false, codes, sym}
+use Rattle.std.proofs.Common.{true, false, codes}
 use Rattle.std.proofs.lemmas.Bool.{true≢false, false≢true}
 use Rattle.surface_text.proofs.Openings.{closed, not_word}
 use Rattle.surface_text.proofs.lines.kind_of.Goals as goal

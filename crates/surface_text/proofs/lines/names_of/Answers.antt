@@ -1,9 +1,9 @@
-use Rattle.std.proofs.Common.{◌≡◌, Some, None, codes}
+use Rattle.std.proofs.Common.{Some, None, codes}
 use Rattle.std.proofs.lemmas.Bool.Decides.{Decides-eqb}
 use Rattle.std.proofs.lemmas.Slice.Eq.{strip_prefix_is}
 use Rattle.surface_text.specs.Names.{IsNameOf, IsBoundedName}
 use Rattle.surface_text.proofs.Parts.{spelled}
-use Rattle.surface_text.proofs.Pairs.{glue_value, glue_not_first, glue_not_second, glue_large_first, glue_large_second, glue_no_space, glue_one_word}
+use Rattle.surface_text.proofs.Pairs.{glue_value, glue_not_first, glue_not_second, glue_large_first, glue_large_second, glue_one_word}
 use Rattle.surface_text.proofs.lines.names_of.Goals as goal
 
 pub returns-in_default-strip_prefix : goal.returns-in_default-strip_prefix

@@ -1,4 +1,3 @@
-use Rattle.std.proofs.Common.{◌≡◌}
 use Rattle.std.proofs.lemmas.Result.{err_from_is_err_and}
 use Rattle.surface_text.specs.Spelling.{content, lines_before_end}
 use Rattle.surface_text.proofs.Behind.{file_wanted, refused_next}

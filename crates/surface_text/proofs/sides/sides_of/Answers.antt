@@ -1,7 +1,7 @@
-use Rattle.std.proofs.Common.{◌≡◌, arith, length, rules, Some, None, codes}
+use Rattle.std.proofs.Common.{arith, rules, Some, None, codes}
 use Rattle.std.proofs.lemmas.Bool.Decides.{Decides-eqb}
 use Rattle.std.proofs.lemmas.Slice.Eq.{strip_prefix_is}
-use Rattle.surface_text.proofs.Runs.{sides_none, sides_value, sides_large, sides_not, sides_end, sides_empty, sides_beyond}
+use Rattle.surface_text.proofs.Runs.{sides_value, sides_large, sides_not, sides_end, sides_empty, sides_beyond}
 use Rattle.surface_text.proofs.sides.sides_of.Goals as goal
 
 pub returns-in-Not : goal.returns-in-Not
