@@ -1,6 +1,6 @@
 //! Single lines of a surface file, each with the least cause where it is refused.
 
-ghost use Rattle.std.specs.Prelude.{◌≡◌, ◌↔◌, ◌≤◌, ◌<◌, Bool, true, [], ◌∷◌, ◌++◌, length, IsTrue, MatchOption, MatchResult, Contains, map};
+ghost use Rattle.std.specs.Prelude.{◌≡◌, ◌↔◌, ◌≤◌, ◌<◌, true, [], ◌∷◌, ◌++◌, length, IsTrue, MatchOption, MatchResult, Contains, map};
 ghost use Rattle.quad_field.specs.FieldNumber.{IsFieldNumber};
 ghost use Rattle.surface_text.specs.Spelling.{Line, line_text, content, lines_before_end};
 ghost use Rattle.surface_text.specs.Lines.{HasFittingLength, IsSoFar, MayFollow, IsTaken, line_of, IsLineRefused};
@@ -109,7 +109,7 @@ fn field_in(line: &[u8]) -> Result<u32, Cause>
     if word != b"field".as_slice() {
         return Err(Cause::BadKind);
     }
-    Ok(field_of(tail)?)
+    field_of(tail)
 }
 
 /// Takes the field line.
