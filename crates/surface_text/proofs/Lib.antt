@@ -7,3 +7,4 @@ pub mod Written
 pub mod Runs
 pub mod Dots
 pub mod Tails
+pub mod Spellings

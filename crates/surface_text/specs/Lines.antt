@@ -1,5 +1,5 @@
 -- What is read line by line: a file so far, and the line that follows it.
-use Rattle.std.specs.Prelude.{◌≡◌, ◌×◌, ◌≤◌, ◌<◌, ℕ, List, [], ◌∷◌, ◌++◌, length, ⊤, ⊥}
+use Rattle.std.specs.Prelude.{◌≡◌, ◌≤◌, ◌<◌, ℕ, List, [], ◌∷◌, ◌++◌, length, ⊤}
 use Rattle.std.specs.List.{AllByRecursion}
 use Rattle.quad_field.specs.FieldNumber.{IsFieldNumber}
 use Rattle.plane.specs.declared.vec2.Vec2.{Vec2}
