@@ -8,3 +8,5 @@ pub mod Runs
 pub mod Dots
 pub mod Tails
 pub mod Spellings
+pub mod Verdicts
+pub mod Standing
