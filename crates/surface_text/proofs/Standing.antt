@@ -92,7 +92,7 @@ good_free before line after good ManyPolygons is = not_next ManyPolygons before 
 good_free before line after good BadName is = not_next BadName before line after good is
 
 -- lines of a file that may still grow
-abbrev so_far : ℕ → List Point → List (List Vec2) → List Glue → List Line
+abbrev pub so_far : ℕ → List Point → List (List Vec2) → List Glue → List Line
 so_far d bs ps gs = flat ∷ field d ∷ (map base bs ++ (map polygon ps ++ map glue gs))
 
 -- the words behind lines whose last ones are these
@@ -239,10 +239,10 @@ good_end : (d : ℕ) (bs : List Point) (ps : List (List Vec2)) (gs : List Glue) 
 good_end d bs ps gs some =
     record { first = λ e. absurd (cc); word = may_end d bs ps gs some; form = tt; right = λ cause. right_end cause (so_far d bs ps gs) }
 
-good_flat : IsGood [] flat
+pub good_flat : IsGood [] flat
 good_flat = record { first = λ e. refl; word = at_first (codes "flat" ∷ []) [] (codes "flat") refl; form = tt; right = λ cause. right_flat cause [] }
 
-good_field : (d : ℕ) → IsFieldNumber d → IsGood (flat ∷ []) (field d)
+pub good_field : (d : ℕ) → IsFieldNumber d → IsGood (flat ∷ []) (field d)
 good_field d is =
     record { first = λ e. absurd (cc); word = at_first (codes "field" ∷ []) [] (codes "field") refl; form = tt; right = λ cause. right_field cause (flat ∷ []) d is }
 

@@ -215,7 +215,7 @@ glues_of file =
     ∙ glues_polygons file.polygons (map glue file.glues ++ end ∷ [])
     ∙ glues_glues file.glues (end ∷ []) ∙ append-nil file.glues
 
-same_content : (x y : Content) → x.field ≡ y.field → x.bases ≡ y.bases → x.polygons ≡ y.polygons → x.glues ≡ y.glues → x ≡ y
+pub same_content : (x y : Content) → x.field ≡ y.field → x.bases ≡ y.bases → x.polygons ≡ y.polygons → x.glues ≡ y.glues → x ≡ y
 same_content x y a b c d =
     ap (λ (n : ℕ). let z : Content = record { field = n; bases = x.bases; polygons = x.polygons; glues = x.glues } in z) a
     ∙ ap (λ (n : List Point). let z : Content = record { field = y.field; bases = n; polygons = x.polygons; glues = x.glues } in z) b
