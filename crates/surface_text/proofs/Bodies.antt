@@ -299,3 +299,18 @@ read_refused view bytes (Err (Bad k m)) is c l refused =
     let same = refused_once bytes k c m l is refused in
     inl (ap (λ (n : ℕ). Bad n m) same.0 ∙ ap (λ (n : ℕ). Bad c n) same.1)
 read_refused view bytes (Err Memory) is c l refused = inr refl
+
+-- the answer to a refusal in the second line
+pub field_answer : (bytes rest : List ℕ) (cause : Cause) (answer : TextFault) → bytes ≡ line_text flat ++ 10 ∷ rest → IsLeast cause (flat ∷ []) rest
+    → answer ≡ Bad (number_of cause) 2 → IsFaultOf bytes answer
+field_answer bytes rest cause answer found least e = subst (IsFaultOf bytes) (sym e) (field_refused bytes rest cause found least)
+
+-- all lines of a file, behind its first two
+pub behind_two : (bytes rest after : List ℕ) (d : ℕ) → bytes ≡ line_text flat ++ 10 ∷ rest → rest ≡ line_text (field d) ++ 10 ∷ after → behind_field d after ≡ bytes
+behind_two bytes rest after d found second = sym (found ∙ ap (λ (end : List ℕ). line_text flat ++ 10 ∷ end) second)
+
+-- the answer to bytes behind the end line
+pub late_answer : (bytes start : List ℕ) (file : Content) (rest : List ℕ) (line : ℕ) (answer : TextFault) → start ≡ bytes → IsBody start file rest → rest ≢ []
+    → line ≡ length (lines_before_end file) + 1 → answer ≡ Bad 14 (line + 1) → IsFaultOf bytes answer
+late_answer bytes start file rest line answer same is some number e =
+    subst (IsFaultOf bytes) (sym e) (late_refused bytes file rest line (subst (λ (x : List ℕ). IsBody x file rest) same is) some number)
