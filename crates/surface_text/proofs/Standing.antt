@@ -275,30 +275,33 @@ stand_glues : (d : ℕ) (bs : List Point) (ps : List (List Vec2)) (had gs all : 
     → AllByRecursion (NamesSides ps) gs → all ≡ had ++ gs → Stand (so_far d bs ps all) tail rest → Stand (so_far d bs ps had) (map glue gs ++ tail) rest
 stand_glues d bs ps had [] all tail rest some right e stand =
     subst (λ (xs : List Glue). Stand (so_far d bs ps xs) tail rest) (e ∙ append-nil had) stand
-stand_glues d bs ps had (g ∷ gs) all tail rest some right e stand =
-    (good_free (so_far d bs ps had) (glue g) (lines_then (map glue gs ++ tail) rest) (good_glue d bs ps had g some right.0),
-    subst (λ (xs : List Line). Stand xs (map glue gs ++ tail) rest) (sym (one_glue d bs ps had g))
-    (stand_glues d bs ps (had ++ g ∷ []) gs all tail rest some right.1 (e ∙ sym (append_assoc had (g ∷ []) gs)) stand))
+stand_glues d bs ps had (g ∷ gs) all tail rest some right e stand = (
+  good_free (so_far d bs ps had) (glue g) (lines_then (map glue gs ++ tail) rest) (good_glue d bs ps had g some right.0),
+  subst (λ (xs : List Line). Stand xs (map glue gs ++ tail) rest) (sym (one_glue d bs ps had g))
+      (stand_glues d bs ps (had ++ g ∷ []) gs all tail rest some right.1 (e ∙ sym (append_assoc had (g ∷ []) gs)) stand),
+)
 
 stand_polygons : (d : ℕ) (bs : List Point) (had ps all : List (List Vec2)) (tail : List Line) (rest : List ℕ) → length had + length ps ≤ 256
     → AllByRecursion IsPolygon ps → all ≡ had ++ ps → Stand (so_far d bs all []) tail rest → Stand (so_far d bs had []) (map polygon ps ++ tail) rest
 stand_polygons d bs had [] all tail rest few right e stand =
     subst (λ (xs : List (List Vec2)). Stand (so_far d bs xs []) tail rest) (e ∙ append-nil had) stand
 stand_polygons d bs had (p ∷ ps) all tail rest few right e stand =
-    let longer = length-append had (p ∷ []) in
-    (good_free (so_far d bs had []) (polygon p) (lines_then (map polygon ps ++ tail) rest) (good_polygon d bs had p (omega arith) right.0),
-    subst (λ (xs : List Line). Stand xs (map polygon ps ++ tail) rest) (sym (one_polygon d bs had p))
-    (stand_polygons d bs (had ++ p ∷ []) ps all tail rest (omega arith) right.1 (e ∙ sym (append_assoc had (p ∷ []) ps)) stand))
+    let longer = length-append had (p ∷ []) in (
+      good_free (so_far d bs had []) (polygon p) (lines_then (map polygon ps ++ tail) rest) (good_polygon d bs had p (omega arith) right.0),
+      subst (λ (xs : List Line). Stand xs (map polygon ps ++ tail) rest) (sym (one_polygon d bs had p))
+          (stand_polygons d bs (had ++ p ∷ []) ps all tail rest (omega arith) right.1 (e ∙ sym (append_assoc had (p ∷ []) ps)) stand),
+    )
 
 stand_bases : (d : ℕ) (had bs all : List Point) (tail : List Line) (rest : List ℕ) → length had + length bs ≤ 8
     → AllByRecursion IsBasePoint bs → all ≡ had ++ bs → Stand (so_far d all [] []) tail rest → Stand (so_far d had [] []) (map base bs ++ tail) rest
 stand_bases d had [] all tail rest few right e stand =
     subst (λ (xs : List Point). Stand (so_far d xs [] []) tail rest) (e ∙ append-nil had) stand
 stand_bases d had (b ∷ bs) all tail rest few right e stand =
-    let longer = length-append had (b ∷ []) in
-    (good_free (so_far d had [] []) (base b) (lines_then (map base bs ++ tail) rest) (good_base d had b (omega arith) right.0),
-    subst (λ (xs : List Line). Stand xs (map base bs ++ tail) rest) (sym (one_base d had b))
-    (stand_bases d (had ++ b ∷ []) bs all tail rest (omega arith) right.1 (e ∙ sym (append_assoc had (b ∷ []) bs)) stand))
+    let longer = length-append had (b ∷ []) in (
+      good_free (so_far d had [] []) (base b) (lines_then (map base bs ++ tail) rest) (good_base d had b (omega arith) right.0),
+      subst (λ (xs : List Line). Stand xs (map base bs ++ tail) rest) (sym (one_base d had b))
+          (stand_bases d (had ++ b ∷ []) bs all tail rest (omega arith) right.1 (e ∙ sym (append_assoc had (b ∷ []) bs)) stand),
+    )
 
 -- glue lines stand, where each names sides that are there
 stand_names : (d : ℕ) (bs : List Point) (ps : List (List Vec2)) (gs : List Glue) (tail : List Line) (rest : List ℕ)
@@ -319,9 +322,10 @@ stand_lines d bs ps gs tail rest is points few polygons fewer names stand =
     let glues = stand_names d bs ps gs tail rest names stand in
     let sides = stand_polygons d bs [] ps ps (map glue gs ++ tail) rest (omega arith) polygons refl glues in
     let starts = stand_bases d [] bs bs (map polygon ps ++ (map glue gs ++ tail)) rest (omega arith) points refl sides in
-    subst (λ (xs : List Line). Stand [] xs rest) (sym (lines_shape d bs ps gs tail))
-    (good_free [] flat (lines_then (field d ∷ lines) rest) good_flat,
-    (good_free (flat ∷ []) (field d) (lines_then lines rest) (good_field d is), starts))
+    subst (λ (xs : List Line). Stand [] xs rest) (sym (lines_shape d bs ps gs tail)) (
+      good_free [] flat (lines_then (field d ∷ lines) rest) good_flat,
+      (good_free (flat ∷ []) (field d) (lines_then lines rest) (good_field d is), starts),
+    )
 
 -- the lines of a file so far stand
 pub stand_so_far : (file : Content) (rest : List ℕ) → IsSoFar file → Stand [] (lines_before_end file) rest
