@@ -403,7 +403,7 @@ fn refuses_long_texts_too(rt: HostRuntime) -> Result<(), Fail> {
 #[test]
 fn refuses_every_proper_prefix(rt: HostRuntime) {
     let text = EACH_KIND.as_bytes();
-    let mut line = 1;
+    let mut line: u64 = 1;
     let mut is_cut = false;
     for (length, byte) in text.iter().enumerate() {
         let (prefix, _) = text.split_at(length);
@@ -415,7 +415,7 @@ fn refuses_every_proper_prefix(rt: HostRuntime) {
         );
         is_cut = *byte != b'\n';
         if !is_cut {
-            line += 1;
+            line = line.saturating_add(1);
         }
     }
 }
