@@ -10,4 +10,4 @@ pub mod Tails
 pub mod Spellings
 pub mod Verdicts
 pub mod Standing
-pub mod Bodies
+pub mod Outcomes

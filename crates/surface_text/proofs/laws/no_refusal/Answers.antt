@@ -1,4 +1,4 @@
-use Rattle.surface_text.proofs.Bodies.{text_not_refused}
+use Rattle.surface_text.proofs.Outcomes.{text_not_refused}
 use Rattle.surface_text.proofs.laws.no_refusal.Goals as goal
 
 pub returns : goal.returns

@@ -1,7 +1,7 @@
 use Rattle.std.proofs.Common.{length}
 use Rattle.surface_text.specs.Spelling.{content}
 use Rattle.surface_text.specs.Refusals.{behind_field}
-use Rattle.surface_text.proofs.Bodies.{BodySoFar}
+use Rattle.surface_text.proofs.Outcomes.{BodySoFar}
 use Rattle.surface_text.proofs.reader.body.Given as goal
 
 abbrev pub invariant-lines : goal.invariant-lines

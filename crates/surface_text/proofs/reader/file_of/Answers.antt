@@ -1,7 +1,7 @@
 use Rattle.std.proofs.Common.{◌≡◌, ◌≢◌, [], ◌∷◌, List, ℕ, length, ap, arith, rules}
 use Rattle.surface_text.specs.Spelling.{content}
 use Rattle.surface_text.specs.Refusals.{behind_field}
-use Rattle.surface_text.proofs.Bodies.{field_answer, behind_two, late_answer}
+use Rattle.surface_text.proofs.Outcomes.{field_answer, behind_two, late_answer}
 use Rattle.surface_text.proofs.reader.file_of.Goals as goal
 
 pub returns-in-Err-field_line : goal.returns-in-Err-field_line

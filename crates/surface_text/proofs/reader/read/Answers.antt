@@ -1,5 +1,5 @@
 use Rattle.surface_text.specs.Spelling.{content}
-use Rattle.surface_text.proofs.Bodies.{read_accepted, read_refused}
+use Rattle.surface_text.proofs.Outcomes.{read_accepted, read_refused}
 use Rattle.surface_text.proofs.reader.read.Goals as goal
 
 pub returns-clause-accepted : goal.returns-clause-accepted
