@@ -1,24 +1,23 @@
 -- The file so far, one line more at a time, and what is answered at the end.
-use Rattle.std.proofs.Common.{◌≡◌, ◌≢◌, ◌⊎◌, inl, inr, ℕ, zero, suc, ◌+◌, ◌<◌, ◌≤◌, List, [], ◌∷◌, ◌++◌, map, length, refl, ap, sym, ◌∙◌, subst, arith, append_assoc, Ok, Err, Result, MatchResult}
+use Rattle.std.proofs.Common.{◌≡◌, ◌≢◌, ◌⊎◌, inl, inr, ℕ, ◌+◌, ◌<◌, ◌≤◌, List, [], ◌∷◌, ◌++◌, map, length, refl, ap, sym, ◌∙◌, subst, arith, Ok, Err, Result, MatchResult}
 use Rattle.std.specs.List.{AllByRecursion}
-use Rattle.std.proofs.lemmas.List.{append-nil, length-append, length-map}
+use Rattle.std.proofs.lemmas.List.{length-append, length-map}
 use Rattle.quad_field.specs.FieldNumber.{IsFieldNumber}
 use Rattle.plane.specs.declared.vec2.Vec2.{Vec2}
 use Rattle.plane.specs.Spelling.{vector_text}
 use Rattle.surface_text.specs.declared.file.Point.{Point}
 use Rattle.surface_text.specs.declared.file.Polygon.{Polygon}
 use Rattle.surface_text.specs.declared.file.Glue.{Glue}
-use Rattle.surface_text.specs.declared.file.SurfaceFile.{SurfaceFile}
 use Rattle.surface_text.specs.declared.file.TextFault.{TextFault}
 use Rattle.surface_text.specs.declared.file.TextFault.TheVariants.{Bad, Memory}
 use Rattle.surface_text.specs.declared.sides.LineFault.{LineFault}
 use Rattle.surface_text.specs.declared.sides.LineFault.TheVariants as faults
 use Rattle.surface_text.specs.declared.cause.Cause.{Cause}
 use Rattle.surface_text.specs.declared.cause.Cause.TheVariants.{AfterEnd}
-use Rattle.surface_text.specs.Spelling.{Line, Content, content, line_text, sides_text, lines_then, lines_before_end, lines_of, text}
+use Rattle.surface_text.specs.Spelling.{Line, Content, line_text, sides_text, lines_then, lines_before_end, lines_of, text}
 use Rattle.surface_text.specs.Spelling.Line.{flat, field, base, polygon, glue, end}
 use Rattle.surface_text.specs.Limits.{IsBasePoint, IsPolygon, NamesSides, IsWithinLimits}
-use Rattle.surface_text.specs.Causes.{IsLeast, IsRefused, number_of, Stand}
+use Rattle.surface_text.specs.Causes.{IsLeast, IsRefused, number_of}
 use Rattle.surface_text.specs.Lines.{IsSoFar, HasFittingLength, IsTaken, IsLineRefused}
 use Rattle.surface_text.specs.Refusals.{IsFaultOf, IsFaultAt, IsBody, IsTextOf, behind_field}
 use Rattle.surface_text.proofs.Written.{lines_then-append}

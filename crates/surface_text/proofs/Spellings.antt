@@ -1,5 +1,5 @@
 -- Lines and their texts: one text a line, of printed characters.
-use Rattle.std.proofs.Common.{◌≡◌, ◌≢◌, ◌⊎◌, inl, inr, ℕ, zero, suc, ◌+◌, ◌<◌, ◌≤◌, ℤ, pos, negsuc, List, [], ◌∷◌, ◌++◌, codes, IsTrue, Bool, nat_lt, get_or, ◌&&◌, true, false, refl, ap, sym, ◌∙◌, subst, arith, append_assoc}
+use Rattle.std.proofs.Common.{◌≡◌, ◌⊎◌, inl, inr, ℕ, zero, suc, ◌+◌, ◌<◌, ◌≤◌, ℤ, pos, negsuc, List, [], ◌∷◌, ◌++◌, codes, IsTrue, Bool, nat_lt, get_or, ◌&&◌, true, refl, ap, sym, ◌∙◌, subst, arith, append_assoc}
 use Rattle.std.specs.List.{AllByRecursion}
 use Rattle.std.specs.Str.Parse.{AllDigits}
 use Rattle.std.specs.Char.{digit_value}
@@ -134,6 +134,7 @@ printed_by : (bytes : List ℕ) → IsTrue (are_printed bytes) → ArePrinted by
 printed_by [] is = tt
 printed_by (b ∷ bytes) is = grind (arith, printed_by bytes)
 
+-- the same of higher ones
 abbrev are_high : List ℕ → Bool
 are_high [] = true
 are_high (b ∷ bytes) = nat_lt 42 b && (nat_lt b 123 && are_high bytes)

@@ -1,7 +1,7 @@
 -- The lines of a file within the limits are free of causes, one behind another.
-use Rattle.std.proofs.Common.{◌≡◌, ◌≢◌, ◌⊎◌, inl, inr, ℕ, zero, suc, ◌+◌, ◌<◌, ◌≤◌, List, [], ◌∷◌, ◌++◌, map, length, codes, Contains, refl, ap, sym, ◌∙◌, subst, arith, append_assoc}
+use Rattle.std.proofs.Common.{◌≡◌, ◌≢◌, ℕ, ◌+◌, ◌<◌, ◌≤◌, List, [], ◌∷◌, ◌++◌, map, length, codes, Contains, refl, ap, sym, ◌∙◌, subst, arith, append_assoc}
 use Rattle.std.specs.List.{AllByRecursion}
-use Rattle.std.proofs.lemmas.List.{append-nil, length-append, length-map}
+use Rattle.std.proofs.lemmas.List.{append-nil, length-append}
 use Rattle.quad_field.specs.FieldNumber.{IsFieldNumber}
 use Rattle.plane.specs.declared.vec2.Vec2.{Vec2}
 use Rattle.surface_text.specs.declared.file.Point.{Point}
@@ -11,7 +11,7 @@ use Rattle.surface_text.specs.declared.cause.Cause.TheVariants.{NoLine, CutLine,
 use Rattle.surface_text.specs.Spelling.{Line, Content, line_text, word_of, tail_of, lines_then, lines_before_end, lines_of}
 use Rattle.surface_text.specs.Spelling.Line.{flat, field, base, polygon, glue, end}
 use Rattle.surface_text.specs.Limits.{IsBasePoint, IsPolygon, NamesSides, IsWithinLimits}
-use Rattle.surface_text.specs.Causes.{IsWanted, words_after, words_behind, FrontOf, Holds, HoldsOfLine, HoldsOfNext, HasForm, IsLine, IsWrong, IsFree, Stand, base_lines, polygons_in}
+use Rattle.surface_text.specs.Causes.{words_after, words_behind, HoldsOfLine, HoldsOfNext, HasForm, IsLine, IsWrong, IsFree, Stand, base_lines, polygons_in}
 use Rattle.surface_text.specs.Lines.{IsSoFar, MayFollow}
 use Rattle.surface_text.proofs.Stops.{same_front}
 use Rattle.surface_text.proofs.Numbers.{Lacks}

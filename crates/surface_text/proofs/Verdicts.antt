@@ -1,13 +1,13 @@
 -- A text is refused in one way, and a text within the limits in none.
-use Rattle.std.proofs.Common.{◌≡◌, ◌≢◌, ◌⊎◌, inl, inr, ℕ, zero, suc, ◌+◌, ◌<◌, ◌≤◌, List, [], ◌∷◌, ◌++◌, map, length, refl, ap, sym, ◌∙◌, subst, arith, append_assoc}
+use Rattle.std.proofs.Common.{◌≡◌, ◌≢◌, ◌⊎◌, inl, inr, ℕ, suc, ◌+◌, List, [], ◌∷◌, ◌++◌, map, length, refl, ap, sym, ◌∙◌, subst, arith, append_assoc}
 use Rattle.std.proofs.lemmas.Bool.{cases_lt}
-use Rattle.std.proofs.lemmas.List.{append-nil, length-append}
+use Rattle.std.proofs.lemmas.List.{append-nil}
 use Rattle.plane.specs.declared.vec2.Vec2.{Vec2}
 use Rattle.surface_text.specs.declared.file.Point.{Point}
 use Rattle.surface_text.specs.declared.file.Glue.{Glue}
 use Rattle.surface_text.specs.declared.cause.Cause.{Cause}
 use Rattle.surface_text.specs.declared.cause.Cause.TheVariants.{NoLine, CutLine, BadByte, BadFirst, BadKind, BadForm, BadNumber, BadField, BadBase, ManyBases, FewSides, ManyPolygons, BadName, AfterEnd}
-use Rattle.surface_text.specs.Spelling.{Line, Content, line_text, lines_then, lines_before_end, lines_of, text}
+use Rattle.surface_text.specs.Spelling.{Line, Content, line_text, lines_then, lines_of, text}
 use Rattle.surface_text.specs.Spelling.Line.{flat, field, base, polygon, glue, end}
 use Rattle.surface_text.specs.Causes.{IsWanted, words_after, words_behind, Holds, IsFree, Stand, IsLeast, IsRefused, number_of, polygons_in}
 use Rattle.surface_text.proofs.Spellings.{front_line}

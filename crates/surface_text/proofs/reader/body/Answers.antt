@@ -1,4 +1,4 @@
-use Rattle.std.proofs.Common.{◌≡◌, length, refl, subst}
+use Rattle.std.proofs.Common.{length, refl, subst}
 use Rattle.surface_text.specs.declared.lines.BodyLine.{BodyLine}
 use Rattle.surface_text.specs.Spelling.{content}
 use Rattle.surface_text.specs.Lines.{IsTaken, line_of}

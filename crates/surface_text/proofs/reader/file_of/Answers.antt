@@ -1,4 +1,4 @@
-use Rattle.std.proofs.Common.{◌≡◌, ◌≢◌, [], ◌∷◌, List, ℕ, length, ap, arith, rules}
+use Rattle.std.proofs.Common.{◌≡◌, ◌≢◌, [], length, ap, arith}
 use Rattle.surface_text.specs.Spelling.{content}
 use Rattle.surface_text.specs.Refusals.{behind_field}
 use Rattle.surface_text.proofs.Outcomes.{field_answer, behind_two, late_answer}
