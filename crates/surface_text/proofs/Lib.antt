@@ -12,3 +12,7 @@ pub mod Openings
 pub mod Least
 pub mod Bodies
 pub mod Behind
+pub mod Spellings
+pub mod Verdicts
+pub mod Standing
+pub mod Outcomes

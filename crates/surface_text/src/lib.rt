@@ -6,6 +6,7 @@ mod cause;
 mod file;
 mod fractions;
 mod fronts;
+pub mod laws;
 mod lines;
 mod names;
 mod points;

@@ -1,4 +1,4 @@
-//! Tables of base points with their text, and a file as it is written.
+//! Tables of base points and files with their text, and of texts that are refused.
 
 ghost use Rattle.std.specs.Prelude.{◌≡◌, ◌∷◌, [], IfOk};
 ghost use Rattle.surface_text.specs.Limits.{IsBasePoint};
@@ -155,8 +155,50 @@ fn writes_each_form_of_a_number(rt: HostRuntime) -> Result<(), Fail> {
 const SQUARE: &str =
     "flat 1\nfield 2\npolygon 1,0 0,1 -1,0 0,-1\nglue 0.0 0.2\nglue 0.1 0.3\nend\n";
 
+/// A file with each kind of line.
+const EACH_KIND: &str =
+    "flat 1\nfield 997\nbase -2/13 5/4\nbase 0 1\npolygon 1,0 0+1r,-10-1r -5+3r,2\npolygon 1,0 0,1 -1,-1\nglue 0.2 1.0\nend\n";
+
+/// The cause and the line of a refusal, where the bytes are few enough.
+fn refusal(alloc: Global, text: &[u8]) -> Option<(u8, u64)> {
+    if text.len() > 1_048_576 {
+        return None;
+    }
+    match read(alloc, text) {
+        Err(TextFault::Bad { cause, line }) => Some((cause, line)),
+        _ => None,
+    }
+}
+
+/// What is written of what is read, where the bytes are few enough and are read.
+fn written(alloc: Global, text: &[u8]) -> Result<Option<Vec<u8>>, AllocError> {
+    if text.len() > 1_048_576 {
+        return Ok(None);
+    }
+    match read(alloc, text) {
+        Ok(file) => Ok(Some(write(alloc, &file)?)),
+        Err(_) => Ok(None),
+    }
+}
+
+/// A text with this part so many times in it.
+fn repeated(
+    alloc: Global,
+    start: &str,
+    part: &str,
+    count: usize,
+    end: &str,
+) -> Result<String, AllocError> {
+    let mut text = String::from_str(alloc, start)?;
+    for _ in 0..count {
+        text.push_str(part)?;
+    }
+    text.push_str(end)?;
+    Ok(text)
+}
+
 #[test]
-fn refuses_the_first_line_with_a_fault_for_its_least_cause(rt: HostRuntime) -> Result<(), Fail> {
+fn refuses_the_first_line_with_a_fault_for_its_least_cause(rt: HostRuntime) {
     for (text, cause, line) in [
         // A missing line, and one that is cut.
         ("", 1, 1),
@@ -172,6 +214,12 @@ fn refuses_the_first_line_with_a_fault_for_its_least_cause(rt: HostRuntime) -> R
         ("flat 2\r\n", 3, 1),
         ("flat 1\nfield 2\npolygon 1,0 0,1\t-1,-1\n", 3, 3),
         ("flat 1\nfield 2\n\u{7f}\n", 3, 3),
+        ("flat 1\nfield 2\r\n", 3, 2),
+        ("flat 1\nfield 1\t\n", 3, 2),
+        ("flat 1\nfield 2\nglue\t0.0\n", 3, 3),
+        ("flat 1\nfield 2\nbase 1 1\u{7f}\n", 3, 3),
+        ("flat 1\nfield 2\npolygon 2000000000,0 \u{7f}\n", 3, 3),
+        ("flat 1\nfield 2\npolygon 1,0 -1,0 é\n", 3, 3),
         // The first line.
         ("flat 2\n", 4, 1),
         (" flat 1\n", 4, 1),
@@ -205,11 +253,38 @@ fn refuses_the_first_line_with_a_fault_for_its_least_cause(rt: HostRuntime) -> R
         ("flat 1\nfield 2\npolygon 1r,0 0,1 -1,-1\n", 6, 3),
         ("flat 1\nfield 2\npolygon 0r,0 0,1 -1,-1\n", 6, 3),
         ("flat 1\nfield 2\npolygon 1+0r,0 0,1 -1,-1\n", 6, 3),
+        ("flat 1\nfield 2 \n", 6, 2),
+        ("flat 1\nfield  2\n", 6, 2),
+        ("flat 1\nfield +2\n", 6, 2),
+        ("flat 1\nfield 1r\n", 6, 2),
+        ("flat 1\nfield 02 x\n", 6, 2),
+        ("flat 1\nfield 2\nbase\n", 6, 3),
+        ("flat 1\nfield 2\nbase 0\n", 6, 3),
+        ("flat 1\nfield 2\nbase 0 1 \n", 6, 3),
+        ("flat 1\nfield 2\nbase 0  1\n", 6, 3),
+        ("flat 1\nfield 2\nbase -0 1\n", 6, 3),
+        ("flat 1\nfield 2\nbase 0 1/0\n", 6, 3),
+        ("flat 1\nfield 2\nbase 1000000000/1000000000 1\n", 6, 3),
         ("flat 1\nfield 2\nbase 0 2/4\n", 6, 3),
         ("flat 1\nfield 2\nbase 0 1/1\n", 6, 3),
         ("flat 1\nfield 2\nbase 2000000000 x\n", 6, 3),
         ("flat 1\nfield 2\npolygon 2000000000,0 x\n", 6, 3),
+        (
+            "flat 1\nfield 2\nbase 4000000000/02 1000000000000000000000000000000000000000\n",
+            6,
+            3,
+        ),
         // Numbers that are too large, against what comes before and behind.
+        (
+            "flat 1\nfield 2\nbase 2000000000000000000000000000000000000000/2 1\n",
+            7,
+            3,
+        ),
+        (
+            "flat 1\nfield 2\nbase 0 1000000000000000000000000000000000000000\n",
+            7,
+            3,
+        ),
         ("flat 1\nfield 2\nbase 0 2000000000/4000000000\n", 7, 3),
         ("flat 1\nfield 2\nbase 1000000001 0\n", 7, 3),
         ("flat 1\nfield 2\npolygon 1000000001,0\n", 7, 3),
@@ -218,6 +293,7 @@ fn refuses_the_first_line_with_a_fault_for_its_least_cause(rt: HostRuntime) -> R
             7,
             3,
         ),
+        ("flat 1\nfield 2\npolygon 1000000001,0 0,1\n", 7, 3),
         // Fields.
         ("flat 1\nfield 0\n", 8, 2),
         ("flat 1\nfield 1\n", 8, 2),
@@ -250,23 +326,126 @@ fn refuses_the_first_line_with_a_fault_for_its_least_cause(rt: HostRuntime) -> R
             13,
             4,
         ),
+        (
+            "flat 1\nfield 2\npolygon 1,0 0,1 -1,-1\nglue 0.1 0.1000000000000000000000000000000000000000\n",
+            13,
+            4,
+        ),
+        (
+            "flat 1\nfield 2\npolygon 1,0 0,1 -1,-1\nglue 9.9 0.01\n",
+            6,
+            4,
+        ),
+        (
+            "flat 1\nfield 2\npolygon 1,0 0,1 -1,-1\nglue 0.0 0.1 \n",
+            6,
+            4,
+        ),
         ("flat 1\nfield 2\npolygon 1,0 0,1 -1,-1\nglue 0.0 0\n", 6, 4),
         // Bytes behind the end.
         ("flat 1\nfield 2\npolygon 1,0 0,1 -1,-1\nend\n\n", 14, 5),
         ("flat 1\nfield 2\npolygon 1,0 0,1 -1,-1\nend\nx", 14, 5),
     ] {
-        match read(rt.alloc(), text.as_bytes()) {
-            Err(
-                TextFault::Bad {
-                    cause: found,
-                    line: place,
-                },
-            ) => {
-                assert_eq!(rt; (found, place), (cause, line), "at {text}");
-            }
-            _ => assert!(rt; false, "no refusal at {text}"),
+        assert_eq!(rt;
+            refusal(rt.alloc(), text.as_bytes()),
+            Some((cause, line)),
+            "at {text}"
+        );
+    }
+}
+
+#[test]
+fn refuses_long_texts_too(rt: HostRuntime) -> Result<(), Fail> {
+    let head = "flat 1\nfield 2\n";
+    let base = "base 0 1\n";
+    let triangle = "polygon 1,0 0,1 -1,-1\n";
+    for (start, part, count, end, cause, line) in [
+        // The ninth base line and the 257th polygon line.
+        (head, base, 9, "", 10, 11),
+        (head, base, 8, "", 1, 11),
+        (head, base, 8, "base 1 1\n", 9, 11),
+        (head, base, 8, "end\n", 5, 11),
+        (head, triangle, 257, "", 12, 259),
+        (head, triangle, 256, "", 1, 259),
+        (head, triangle, 256, "polygon 1,0 -1,0\n", 11, 259),
+        (head, triangle, 256, "glue 256.0 0.0\n", 13, 259),
+        (head, triangle, 256, "end\nend\n", 14, 260),
+        // A megabyte of line feeds, and one of sides.
+        ("", "\n", 1_048_576, "", 4, 1),
+        ("flat 1\nfield 2\npolygon", " 1,0", 262_000, "\n", 1, 4),
+        ("flat 1\nfield 2\npolygon", " 1,0", 262_000, " \n", 6, 3),
+        // Numbers of ten thousand digits.
+        ("flat 1\nfield ", "9", 10_000, "\n", 8, 2),
+        ("flat 1\nfield 2\nbase 0 ", "9", 10_000, "\n", 7, 3),
+        ("flat 1\nfield 2\nbase 0 ", "0", 10_000, "\n", 6, 3),
+        ("flat 1\nfield 2\nbase 1/", "9", 10_000, " x\n", 6, 3),
+        ("flat 1\nfield 2\nbase 6", "0", 10_000, "/4 1\n", 7, 3),
+        ("flat 1\nfield 2\npolygon 1,0+", "9", 10_000, "r\n", 7, 3),
+        (
+            "flat 1\nfield 2\npolygon 1,0 0,1 -1,-1\nglue 0.",
+            "9",
+            10_000,
+            " 0.0\n",
+            13,
+            4,
+        ),
+    ] {
+        let text = repeated(rt.alloc(), start, part, count, end)?;
+        assert_eq!(rt;
+            refusal(rt.alloc(), text.as_bytes()),
+            Some((cause, line)),
+            "at {start} {count} {end}"
+        );
+    }
+    Ok(())
+}
+
+#[test]
+fn refuses_every_proper_prefix(rt: HostRuntime) {
+    let text = EACH_KIND.as_bytes();
+    let mut line: u64 = 1;
+    let mut is_cut = false;
+    for (length, byte) in text.iter().enumerate() {
+        let (prefix, _) = text.split_at(length);
+        let cause = if is_cut { 2 } else { 1 };
+        assert_eq!(rt;
+            refusal(rt.alloc(), prefix),
+            Some((cause, line)),
+            "at {length}"
+        );
+        is_cut = *byte != b'\n';
+        if !is_cut {
+            line = line.saturating_add(1);
         }
     }
+}
+
+#[test]
+fn writes_again_what_it_reads(rt: HostRuntime) -> Result<(), Fail> {
+    for text in [
+        SQUARE,
+        EACH_KIND,
+        "flat 1\nfield 2\npolygon 1,0 0,1 -1,-1\nend\n",
+        "flat 1\nfield 2\npolygon 0,0 0,0 0,0\npolygon 1,0 0,1 -1,-1\nglue 0.0 0.0\nglue 0.0 1.2\nend\n",
+        "flat 1\nfield 2\npolygon 1000000000,-1000000000 0,0-1000000000r 0+1000000000r,1\nend\n",
+    ] {
+        assert_eq!(rt;
+            written(rt.alloc(), text.as_bytes())?.as_deref(),
+            Some(text.as_bytes()),
+            "at {text}"
+        );
+    }
+    let most = repeated(
+        rt.alloc(),
+        "flat 1\nfield 2\nbase 0 1\nbase 0 1\nbase 0 1\nbase 0 1\nbase 0 1\nbase 0 1\nbase 0 1\nbase 1 2\n",
+        "polygon 1,0 0,1 -1,-1\n",
+        256,
+        "glue 255.2 0.0\nend\n",
+    )?;
+    assert_eq!(rt;
+        written(rt.alloc(), most.as_bytes())?.as_deref(),
+        Some(most.as_bytes())
+    );
     Ok(())
 }
 
