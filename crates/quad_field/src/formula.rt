@@ -30,3 +30,9 @@ pub enum Formula {
     /// The determinant of two vectors, the image of a vector, or a vector times a denominator.
     F13,
 }
+
+/// A step of this formula lies outside i128.
+#[derive(Clone, Copy, Debug, PartialEq, Eq)]
+pub struct Wide {
+    pub formula: Formula,
+}

@@ -14,7 +14,7 @@ mod radicand;
 
 pub use divisors::{content, reduce};
 pub use field::Field;
-pub use formula::Formula;
+pub use formula::{Formula, Wide};
 pub use quad::{Quad, Sign, TooWide};
 
 #[cfg(test)]

@@ -28,3 +28,7 @@ triangle_of h = h / 3
 -- the half-edge after h in its triangle
 abbrev pub next_of : ℕ → ℕ
 next_of h = 3 * (h / 3) + (h % 3 + 1) % 3
+
+-- the half-edge before h in its triangle
+abbrev pub previous_of : ℕ → ℕ
+previous_of h = 3 * (h / 3) + (h % 3 + 2) % 3

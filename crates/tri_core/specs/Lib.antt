@@ -5,5 +5,6 @@ pub use Rattle.quad_field.specs.FieldNumber
 pub use Rattle.plane.specs.Vectors
 pub mod HalfEdges
 pub mod Triangulation
+pub mod Flips
 pub mod Refusals
 pub mod Search
