@@ -1,3 +1,5 @@
 pub mod Polygons
 pub mod Gluings
 pub mod Refusals
+pub mod Bounds
+pub mod Parts

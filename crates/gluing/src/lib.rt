@@ -4,8 +4,13 @@
 #![tactic(auto)]
 
 mod cause;
+mod closed;
+mod corners;
 mod fault;
 mod glued;
+mod polygons;
+mod turns;
+mod vectors;
 
 pub use fault::GlueFault;
 pub use glued::{Glued, glue};
