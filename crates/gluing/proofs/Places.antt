@@ -67,3 +67,12 @@ module _ (d : ℕ) (sides : List (Vector Quad)) (i : ℕ) where
 
   pub minus_proper : ((Minus ≡ Minus) ↔ IsPositive d ((quad_ops d).neg (corner d sides i))) → (IsTrue false ↔ IsCornerProper d sides i)
   minus_proper right = ((λ no. absurd (both_ways false refl no)), (λ p. absurd (p.1 (right.0 refl))))
+
+-- one side more
+pub total_more : (d : ℕ) (vs : List (Vector Quad)) (i j : ℕ) (u s t : Vector Quad) → i < length vs → suc i ≡ j → side_at d vs i ≡ u
+    → sum_of d (drop j vs) ≡ s → t ≡ vector_sum (quad_ops d) u s → sum_of d (drop i vs) ≡ t
+total_more d vs i j u s t h e side sum is =
+    sum_from d vs i h
+    ∙ ap (λ (x : Vector Quad). vector_sum (quad_ops d) x (sum_of d (drop (suc i) vs))) side
+    ∙ ap (λ (x : Vector Quad). vector_sum (quad_ops d) u x) (ap (λ (k : ℕ). sum_of d (drop k vs)) e ∙ sum)
+    ∙ sym is

@@ -1,5 +1,5 @@
 -- Bounded numbers: their sums, determinants and inner products are not wide.
-use Rattle.std.proofs.Common.{◌≡◌, ℕ, ◌+◌, ◌*◌, ◌<◌, ◌≤◌, ◌^◌, ℤ, pos, ◌+ℤ◌, ◌-ℤ◌, ◌*ℤ◌, FitsSigned, arith, lit<, lit≤, unsigned_abs}
+use Rattle.std.proofs.Common.{◌≡◌, suc, ◌-◌, sym, subst, ℕ, ◌+◌, ◌*◌, ◌<◌, ◌≤◌, ◌^◌, ℤ, pos, ◌+ℤ◌, ◌-ℤ◌, ◌*ℤ◌, FitsSigned, arith, lit<, lit≤, unsigned_abs}
 use Rattle.std.specs.Int.{w128}
 use Rattle.std.proofs.lemmas.Int.{fits_signed_from_abs, unsigned_abs-mul, ints}
 use Rattle.std.proofs.lemmas.Nat.{mul-le}
@@ -77,3 +77,12 @@ pub sum_fits : (d m n : ℕ) (u v : Vec2) → m + n < 2 ^ 127 → IsVectorWithin
 sum_fits d m n u v low h k =
     ((tt, tt, within_fits (m + n) ((quad_ops d).add u.s v.s) (sum_within d m n u.s v.s h.0 k.0) low),
     (tt, tt, within_fits (m + n) ((quad_ops d).add u.t v.t) (sum_within d m n u.t v.t h.1 k.1) low))
+
+-- and as many sides as n - j and one
+pub within_more : (d n i j : ℕ) (u s t : Vector Quad) → suc i ≡ j → j ≤ n → IsVectorWithin 1000000000 u → IsVectorWithin ((n - j) * 1000000000) s
+    → t ≡ vector_sum (quad_ops d) u s → IsVectorWithin ((n - i) * 1000000000) t
+within_more d n i j u s t e h a b is =
+    let more : 1000000000 + (n - j) * 1000000000 ≡ (n - i) * 1000000000 = omega arith in
+    let sum : IsVectorWithin (1000000000 + (n - j) * 1000000000) (vector_sum (quad_ops d) u s) =
+    (sum_within d 1000000000 ((n - j) * 1000000000) u.0 s.0 a.0 b.0, sum_within d 1000000000 ((n - j) * 1000000000) u.1 s.1 a.1 b.1) in
+    subst (IsVectorWithin ((n - i) * 1000000000)) (sym is) (subst (λ (m : ℕ). IsVectorWithin m (vector_sum (quad_ops d) u s)) more sum)
