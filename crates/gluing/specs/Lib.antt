@@ -3,3 +3,4 @@ pub mod Gluings
 pub mod Refusals
 pub mod Bounds
 pub mod Parts
+pub mod Tables

@@ -9,6 +9,7 @@ mod corners;
 mod fault;
 mod glued;
 mod polygons;
+mod table;
 mod turns;
 mod vectors;
 

@@ -16,11 +16,12 @@ use quad_field::Field;
 use surface_text::Polygon;
 
 /// The sides of polygon p.
-fn sides_at(polygons: &[Polygon], p: usize) -> &[Vec2]
+pub fn sides_at(polygons: &[Polygon], p: usize) -> &[Vec2]
     requires inside { p < length polygons.now }
     requires bounded { AllByRecursion IsPolygon (sides_of polygons.now) }
     ensures value { get_or (sides_of polygons.now) p [] ≡ result.now }
     ensures bounded { AllByRecursion IsBoundedVector result.now }
+    ensures long { 3 ≤ length result.now }
 {
     polygons[p].sides.as_slice()
 }

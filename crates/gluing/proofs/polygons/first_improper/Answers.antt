@@ -16,7 +16,7 @@ returns-in-Some c =
 pub loop-p-preserved : goal.loop-p-preserved
 loop-p-preserved c =
     below_more (λ (k : ℕ). IsProper c.args.f.now (polygon_at (sides_of c.args.polygons.now) k)) c.loop-p.p c.loop-p.invariant
-    (subst (λ (s : List Vec2). IsProper c.args.f.now (vectors s)) (sym c.sides_at.ensures.value) c.in-None.ensures)
+    (subst (λ (s : List Vec2). IsProper c.args.f.now (vectors s)) (sym c.sides_at.ensures.value) (rw c.in_default.is at c.cause_of.ensures))
 
 pub returns : goal.returns
 returns c = λ k h. let below : k < c.loop-p.p = omega (arith, length-sides c.args.polygons.now) in c.loop-p.invariant k below
