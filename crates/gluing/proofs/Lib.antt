@@ -1,3 +1,4 @@
 pub mod Widths
 pub mod Places
 pub mod Convex
+pub mod Twins

@@ -8,8 +8,11 @@ mod closed;
 mod corners;
 mod fault;
 mod glued;
+mod lines;
+mod paired;
 mod polygons;
 mod table;
+mod triangles;
 mod turns;
 mod vectors;
 
