@@ -2,3 +2,5 @@ pub mod Widths
 pub mod Places
 pub mod Convex
 pub mod Twins
+pub mod Rooms
+pub mod Searches
