@@ -5,6 +5,7 @@
 
 mod cause;
 mod closed;
+mod copies;
 mod corners;
 mod fault;
 mod glued;

@@ -2,8 +2,10 @@
 
 ghost use Rattle.std.specs.Prelude.{◌≡◌, ℕ, ◌<◌, ◌≤◌, ◌++◌, ◌∷◌, [], ◌↔◌, if◌then◌else◌, true, false, length, slice_index_or, slice_set, Some, vec_len, vec_capacity};
 ghost use Rattle.gluing.specs.Gluings.{Name};
-ghost use Rattle.gluing.specs.Tables.{rows_of, entry_of};
+ghost use Rattle.gluing.specs.Tables.{rows_of, entry_of, HasEntry};
 ghost use Rattle.gluing.specs.Search.{HasTwins, HasRoom, IsReachable, IsMarked, IsSearch, IsLater};
+
+use super::table::entry;
 
 /// Marks polygon p, and appends it to the polygons that were found unless it was marked before.
 fn reach(marks: &mut [bool], found: &mut Vec<u32>, p: u32)
@@ -23,7 +25,7 @@ fn reach(marks: &mut [bool], found: &mut Vec<u32>, p: u32)
 /// Reaches the polygon of a side's twin, where it has one.
 fn reach_twin(table: &[Vec<Option<(u32, u32)>>], p: usize, e: usize, marks: &mut [bool], found: &mut Vec<u32>)
     requires twins { HasTwins (rows_of table.now) }
-    requires there { (p < length (rows_of table.now)) × (e < length (slice_index_or (rows_of table.now) p [])) }
+    requires there { HasEntry (rows_of table.now) (p, e) }
     requires count { length (rows_of table.now) ≡ length marks.old }
     requires search { IsSearch (rows_of table.now) marks.old found.old.items }
     requires marked { IsMarked marks.old p }
@@ -34,7 +36,7 @@ fn reach_twin(table: &[Vec<Option<(u32, u32)>>], p: usize, e: usize, marks: &mut
     ensures room { HasRoom marks.new found.new }
     ensures capacity { vec_capacity found.new ≡ vec_capacity found.old }
 {
-    if let Some((q, _)) = table[p][e] {
+    if let Some((q, _)) = entry(table, p, e) {
         reach(marks, found, q);
     }
 }

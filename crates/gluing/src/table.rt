@@ -11,11 +11,11 @@ use std::alloc::{AllocError, Global};
 use surface_text::{Glue, Polygon};
 
 /// The twin of side e of polygon p, none where no glue line named it yet.
-pub fn entry(table: &[Vec<Option<(u32, u32)>>], p: u32, e: u32) -> Option<(u32, u32)>
+pub fn entry(table: &[Vec<Option<(u32, u32)>>], p: usize, e: usize) -> Option<(u32, u32)>
     requires { HasEntry (rows_of table.now) (p, e) }
     ensures { result ≡ entry_of (rows_of table.now) (p, e) }
 {
-    table[p as usize][e as usize]
+    table[p][e]
 }
 
 /// Writes the twin of side e of polygon p.
@@ -42,10 +42,10 @@ pub fn is_repeated(table: &[Vec<Option<(u32, u32)>>], g: &Glue) -> bool
     requires second { HasEntry (rows_of table.now) (second_of g.now) }
     ensures { IsTrue result ↔ IsRepeated (rows_of table.now) g.now }
 {
-    if entry(table, g.p1, g.e1).is_some() {
+    if entry(table, g.p1 as usize, g.e1 as usize).is_some() {
         return true;
     }
-    if entry(table, g.p2, g.e2).is_some() {
+    if entry(table, g.p2 as usize, g.e2 as usize).is_some() {
         return true;
     }
     g.p1 == g.p2 && g.e1 == g.e2
