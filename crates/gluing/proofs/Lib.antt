@@ -4,3 +4,4 @@ pub mod Convex
 pub mod Twins
 pub mod Rooms
 pub mod Searches
+pub mod Causes

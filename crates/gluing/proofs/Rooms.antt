@@ -28,7 +28,7 @@ inside_row (x ∷ row) (suc e) twin is = let h = inside_row row e twin is in ome
 abbrev pub blank : List (List Vec2) → List (List (Option Name))
 blank polygons = map (λ (sides : List Vec2). replicate (length sides) None) polygons
 
-none_blank : (n e : ℕ) → get_or (replicate n None) e None ≡ None {A = Name}
+none_blank : (n e : ℕ) → get_or {A = Option Name} (replicate n None) e None ≡ None
 none_blank zero e = refl
 none_blank (suc n) zero = refl
 none_blank (suc n) (suc e) = none_blank n e
