@@ -1,10 +1,15 @@
 -- The steps of the search for the polygons that are joined to polygon 0.
-use Rattle.std.proofs.Common.{◌≡◌, ℕ, ◌+◌, ◌*◌, ◌%◌, ◌<◌, ◌≤◌, ◌⊎◌, ◌↔◌, zero, suc, Bool, true, false, cond, List, [], ◌∷◌, ◌++◌, length, get_or, set, take, replicate, Option, Some, None, refl, sym, ◌∙◌, ap, subst, inl, inr, arith}
+use Rattle.std.proofs.Common.{IsTrue, ◌≡◌, ℕ, ◌+◌, ◌*◌, ◌%◌, ◌<◌, ◌≤◌, ◌⊎◌, ◌↔◌, zero, suc, Bool, true, false, cond, List, [], ◌∷◌, ◌++◌, length, get_or, set, take, replicate, Option, Some, None, refl, sym, ◌∙◌, ap, subst, inl, inr, arith}
 use Rattle.std.proofs.lemmas.Bool.{cases_eq, cases_lt, cases_Bool, cond-true, cond-false, both_ways}
 use Rattle.std.proofs.lemmas.List.{get_or-set_same, get_or-set_other, get_or_append_left, get_or_push, set-get_or, length_push, length-set}
-use Rattle.gluing.specs.Gluings.{Name}
-use Rattle.gluing.specs.Tables.{row_at, entry_of, IsFirstFailure}
-use Rattle.gluing.specs.Search.{IsReachable, IsMarked, IsSearch, IsLater}
+use Rattle.std.specs.List.{AllByRecursion}
+use Rattle.plane.specs.declared.vec2.Vec2.{Vec2}
+use Rattle.surface_text.specs.declared.file.Glue.{Glue}
+use Rattle.surface_text.specs.Limits.{NamesSides}
+use Rattle.gluing.specs.Gluings.{Name, first_of, second_of, no_glue, glue_at, IsJoined}
+use Rattle.gluing.specs.Tables.{row_at, entry_of, IsTable}
+use Rattle.gluing.specs.Search.{HasTwins, IsReachable, IsMarked, IsSearch, IsLater}
+use Rattle.gluing.proofs.Convex.{all_at}
 
 -- polygon 0 is reached
 pub IsReachable-start : (rows : List (List (Option Name))) → IsReachable rows 0
@@ -145,3 +150,40 @@ unmarked_all zero t = refl
 unmarked_all (suc n) zero = refl
 unmarked_all (suc n) (suc t) = unmarked_all n t
 
+-- the polygons that the table reaches are those that glue lines join to polygon 0
+reached_joined : (polygons : List (List Vec2)) (glues : List Glue) (rows : List (List (Option Name))) (p : ℕ) → IsTable polygons glues rows → IsReachable rows p → IsJoined glues p
+reached_joined polygons glues rows p table reached = λ set start closed. reached set start (λ n twin is marked.
+    let w = table.twins n twin is in
+    let both = all_at (λ (g : Glue). IsTrue (set g.p1) ↔ IsTrue (set g.p2)) glues no_glue w.0 closed w.1 in
+    elim w.2 [
+      | inl e ↦ subst (λ (m : Name). IsTrue (set m.0)) e.1 (both.0 (subst (λ (m : Name). IsTrue (set m.0)) (sym e.0) marked))
+      | inr e ↦ subst (λ (m : Name). IsTrue (set m.0)) e.0 (both.1 (subst (λ (m : Name). IsTrue (set m.0)) (sym e.1) marked))
+    ])
+
+-- what holds at each place holds of all elements
+all_from : {X : Type 0} (P : X → Type 0) (xs : List X) (d : X) → ((k : ℕ) → k < length xs → P (get_or xs k d)) → AllByRecursion P xs
+all_from P [] d h = tt
+all_from P (x ∷ xs) d h = (h 0 (omega arith), all_from P xs d (λ k l. h (suc k) (omega arith)))
+
+joined_reached : (polygons : List (List Vec2)) (glues : List Glue) (rows : List (List (Option Name))) (p : ℕ) → IsTable polygons glues rows → IsJoined glues p → IsReachable rows p
+joined_reached polygons glues rows p table joined = λ set start closed. joined set start
+    (all_from (λ (g : Glue). IsTrue (set g.p1) ↔ IsTrue (set g.p2)) glues no_glue (λ k l.
+    let g = glue_at glues k in
+    (closed (first_of g) (second_of g) (table.first k l), closed (second_of g) (first_of g) (table.second k l))))
+
+pub reached_same : (polygons : List (List Vec2)) (glues : List Glue) (rows : List (List (Option Name))) (p : ℕ) → IsTable polygons glues rows → (IsReachable rows p ↔ IsJoined glues p)
+reached_same polygons glues rows p table = (reached_joined polygons glues rows p table, joined_reached polygons glues rows p table)
+
+-- each twin in the table is a side of a polygon
+pub HasTwins-table : (polygons : List (List Vec2)) (glues : List Glue) (rows : List (List (Option Name))) → AllByRecursion (NamesSides polygons) glues → IsTable polygons glues rows → HasTwins rows
+HasTwins-table polygons glues rows there table = λ n twin is.
+    let w = table.twins n twin is in
+    let sides = all_at (NamesSides polygons) glues no_glue w.0 there w.1 in
+    elim w.2 [
+      | inl e ↦
+          let place : twin.0 < length polygons = subst (λ (m : Name). m.0 < length polygons) e.1 sides.1.0 in
+          omega (arith, table.shape.as_many, place)
+      | inr e ↦
+          let place : twin.0 < length polygons = subst (λ (m : Name). m.0 < length polygons) e.0 sides.0.0 in
+          omega (arith, table.shape.as_many, place)
+    ]

@@ -4,10 +4,12 @@
 #![tactic(auto)]
 
 mod cause;
+mod checks;
 mod closed;
 mod copies;
 mod corners;
 mod fault;
+mod faults;
 mod glued;
 mod joined;
 mod lines;
