@@ -12,10 +12,10 @@ use Rattle.gluing.specs.declared.cause.Cause.TheVariants.{NotClosed, Flat, NotCo
 use Rattle.gluing.specs.declared.fault.GlueFault.{GlueFault}
 use Rattle.gluing.specs.declared.fault.GlueFault.TheVariants.{Bad, Memory}
 use Rattle.gluing.specs.Polygons.{polygon_at, IsClosed, IsFlat, IsConvex, IsProper}
-use Rattle.gluing.specs.Gluings.{Gluing, IsGluing, NamesTwice, IsPaired, triangle_count, IsJoined}
+use Rattle.gluing.specs.Gluings.{Name, Gluing, IsGluing, NamesTwice, IsPaired, triangle_count, IsJoined}
 use Rattle.gluing.specs.Bounds.{IsCauseOf}
 use Rattle.gluing.specs.Parts.{IsFirstImproper}
-use Rattle.gluing.specs.Tables.{IsGlueCause, IsLineProper}
+use Rattle.gluing.specs.Tables.{IsGlueCause, IsLineProper, IsFirstUnglued}
 use Rattle.gluing.specs.Refusals.{number_of, HoldsBefore, FailsFirst, IsProperAt, IsGluedAt, HasFewTriangles, ArePolygonsProper, AreGluesProper, AreSidesPaired, Holds, line_at, IsRefused, IsFaultOf}
 
 -- what holds everywhere fails nowhere
@@ -203,3 +203,19 @@ lines_many file =
 -- so a short text has few glue lines
 pub few_glues : (file : Content) → length (text file) ≤ 1048576 → length file.glues ≤ 1048576
 few_glues file short = omega (arith, lines_long (lines_of file), lines_many file, short)
+
+-- the cause of a glue line as it is found
+pub line_found : (file : Content) (d : ℕ) (polygons : List (List Vec2)) (glues : List Glue) (rows : List (List (Option Name))) (cause : Cause) (k : ℕ)
+    → d ≡ file.field → polygons ≡ file.polygons → glues ≡ file.glues → ArePolygonsProper file → IsFirstUnglued d polygons glues rows (Some (cause, k)) → Holds file cause k
+line_found file d polygons glues rows cause k e f g proper h =
+    let at_field : IsFirstUnglued file.field polygons glues rows (Some (cause, k)) = subst (λ (x : ℕ). IsFirstUnglued x polygons glues rows (Some (cause, k))) e h in
+    let at_polygons : IsFirstUnglued file.field file.polygons glues rows (Some (cause, k)) = subst (λ (x : List (List Vec2)). IsFirstUnglued file.field x glues rows (Some (cause, k))) f at_field in
+    let at_glues : IsFirstUnglued file.field file.polygons file.glues rows (Some (cause, k)) = subst (λ (x : List Glue). IsFirstUnglued file.field file.polygons x rows (Some (cause, k))) g at_polygons in
+    line_holds file cause k proper at_glues.0 at_glues.1
+
+-- the cause of a polygon as it is found
+pub polygon_found : (file : Content) (d : ℕ) (polygons : List (List Vec2)) (cause : Cause) (p : ℕ)
+    → d ≡ file.field → polygons ≡ file.polygons → IsFirstImproper d polygons (Some (cause, p)) → Holds file cause p
+polygon_found file d polygons cause p e f h =
+    let at_field : IsFirstImproper file.field polygons (Some (cause, p)) = subst (λ (x : ℕ). IsFirstImproper x polygons (Some (cause, p))) e h in
+    polygon_holds file cause p (subst (λ (x : List (List Vec2)). IsFirstImproper file.field x (Some (cause, p))) f at_field)
