@@ -1,8 +1,7 @@
 -- A file has one refusal at most, and none where it is glued.
-use Rattle.std.proofs.Common.{◌≡◌, ◌≢◌, ℕ, zero, suc, ◌+◌, ◌-◌, ◌<◌, ◌≤◌, ◌⊎◌, inl, inr, List, [], ◌∷◌, ◌++◌, Option, Some, None, length, map, take, get_or, refl, sym, ap, subst, ◌∙◌, arith}
+use Rattle.std.proofs.Common.{◌≡◌, ℕ, zero, suc, ◌+◌, ◌-◌, ◌<◌, ◌≤◌, ◌⊎◌, inl, inr, List, [], ◌∷◌, ◌++◌, Option, Some, length, map, take, refl, sym, ap, subst, ◌∙◌, arith}
 use Rattle.std.proofs.lemmas.Bool.{cases_order}
 use Rattle.std.proofs.lemmas.List.{take_all, length-append, length-map}
-use Rattle.std.specs.List.{AllByRecursion}
 use Rattle.plane.specs.declared.vec2.Vec2.{Vec2}
 use Rattle.surface_text.specs.declared.file.Glue.{Glue}
 use Rattle.surface_text.specs.Spelling.{Content, Line, line_text, lines_then, lines_of, lines_before_end, text}
@@ -11,12 +10,11 @@ use Rattle.gluing.specs.declared.cause.Cause.{Cause}
 use Rattle.gluing.specs.declared.cause.Cause.TheVariants.{NotClosed, Flat, NotConvex, Twice, NotOpposite, Unpaired, ManyTriangles, Apart}
 use Rattle.gluing.specs.declared.fault.GlueFault.{GlueFault}
 use Rattle.gluing.specs.declared.fault.GlueFault.TheVariants.{Bad, Memory}
-use Rattle.gluing.specs.Polygons.{polygon_at, IsClosed, IsFlat, IsConvex, IsProper}
-use Rattle.gluing.specs.Gluings.{Name, Gluing, IsGluing, NamesTwice, IsPaired, triangle_count, IsJoined}
-use Rattle.gluing.specs.Bounds.{IsCauseOf}
+use Rattle.gluing.specs.Polygons.{polygon_at, IsClosed, IsFlat}
+use Rattle.gluing.specs.Gluings.{Name, Gluing, IsGluing, NamesTwice, triangle_count, IsJoined}
 use Rattle.gluing.specs.Parts.{IsFirstImproper}
 use Rattle.gluing.specs.Tables.{IsGlueCause, IsLineProper, IsFirstUnglued}
-use Rattle.gluing.specs.Refusals.{number_of, HoldsBefore, FailsFirst, IsProperAt, IsGluedAt, HasFewTriangles, ArePolygonsProper, AreGluesProper, AreSidesPaired, Holds, line_at, IsRefused, IsFaultOf}
+use Rattle.gluing.specs.Refusals.{number_of, HoldsBefore, FailsFirst, HasFewTriangles, ArePolygonsProper, AreSidesPaired, Holds, line_at, IsRefused, IsFaultOf}
 
 -- what holds everywhere fails nowhere
 never : {P : ℕ → Type 0} {n : ℕ} (p : ℕ) → HoldsBefore P n → ¬ (FailsFirst P n p)
@@ -197,8 +195,13 @@ lines_long (line ∷ lines) = omega (arith, length-append (line_text line) (10 �
 
 lines_many : (file : Content) → length file.glues ≤ length (lines_of file)
 lines_many file =
-    omega (arith, length-append (lines_before_end file) (Line.end ∷ []), length-append (map Line.base file.bases) (map Line.polygon file.polygons ++ map Line.glue file.glues),
-    length-append (map Line.polygon file.polygons) (map Line.glue file.glues), length-map file.glues Line.glue)
+    omega (
+      arith,
+      length-append (lines_before_end file) (Line.end ∷ []),
+      length-append (map Line.base file.bases) (map Line.polygon file.polygons ++ map Line.glue file.glues),
+      length-append (map Line.polygon file.polygons) (map Line.glue file.glues),
+      length-map file.glues Line.glue,
+    )
 
 -- so a short text has few glue lines
 pub few_glues : (file : Content) → length (text file) ≤ 1048576 → length file.glues ≤ 1048576

@@ -1,5 +1,5 @@
 -- When a polygon is convex, and why it isn't proper.
-use Rattle.std.proofs.Common.{◌≡◌, ◌↔◌, ℕ, zero, suc, ◌+◌, ◌<◌, ◌≤◌, ◌⊎◌, inl, inr, List, [], ◌∷◌, Bool, false, Option, Some, None, length, get_or, refl, sym, ◌∙◌, arith, IsTrue}
+use Rattle.std.proofs.Common.{◌≡◌, ◌↔◌, ℕ, zero, suc, ◌+◌, ◌<◌, ◌≤◌, inl, inr, List, [], ◌∷◌, Bool, false, Some, None, length, get_or, refl, sym, ◌∙◌, arith, IsTrue}
 use Rattle.std.specs.List.{AllByRecursion}
 use Rattle.std.proofs.lemmas.Bool.{both_ways, cases_order}
 use Rattle.std.proofs.lemmas.List.{length-map}
@@ -25,10 +25,15 @@ length-sides polygons = length-map polygons (λ (polygon : Polygon). polygon.sid
 pub once_from_last : (d : ℕ) (sides : List (Vector Quad)) (i : ℕ) (last : Bool) → IsFirstRise d sides 0 (Some i)
     → (IsTrue last ↔ ((k : ℕ) → i + 1 ≤ k → k < length sides → ¬ (Rises d sides k))) → (IsTrue last ↔ TurnsOnce d sides)
 once_from_last d sides i last first behind = (
-  (λ yes. (i, first.1, first.2, (λ k h r. elim (cases_order k i) [
-    | inl e ↦ e
-    | inr less ↦ elim less [ inl l ↦ absurd (first.3 k (omega arith) l r) | inr g ↦ absurd (behind.0 yes k (omega arith) h r) ]
-  ]))),
+  (λ yes. (
+    i,
+    first.1,
+    first.2,
+    (λ k h r. elim (cases_order k i) [
+      | inl e ↦ e
+      | inr less ↦ elim less [ inl l ↦ absurd (first.3 k (omega arith) l r) | inr g ↦ absurd (behind.0 yes k (omega arith) h r) ]
+    ]),
+  )),
   (λ once. behind.1 (λ k from h r. let one : k ≡ i = once.3 k h r ∙ sym (once.3 i first.1 first.2) in omega arith)),
 )
 

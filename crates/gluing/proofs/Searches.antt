@@ -1,5 +1,5 @@
 -- The steps of the search for the polygons that are joined to polygon 0.
-use Rattle.std.proofs.Common.{IsTrue, ◌≡◌, ℕ, ◌+◌, ◌*◌, ◌%◌, ◌<◌, ◌≤◌, ◌⊎◌, ◌↔◌, zero, suc, Bool, true, false, cond, List, [], ◌∷◌, ◌++◌, length, get_or, set, take, replicate, Option, Some, None, refl, sym, ◌∙◌, ap, subst, inl, inr, arith}
+use Rattle.std.proofs.Common.{IsTrue, ◌≡◌, ℕ, ◌+◌, ◌<◌, ◌≤◌, ◌⊎◌, ◌↔◌, zero, suc, Bool, true, false, cond, List, [], ◌∷◌, ◌++◌, length, get_or, set, take, replicate, Option, Some, refl, sym, ◌∙◌, ap, subst, inl, inr, arith}
 use Rattle.std.proofs.lemmas.Bool.{cases_eq, cases_lt, cases_Bool, cond-true, cond-false, both_ways}
 use Rattle.std.proofs.lemmas.List.{get_or-set_same, get_or-set_other, get_or_append_left, get_or_push, set-get_or, length_push, length-set}
 use Rattle.std.specs.List.{AllByRecursion}
@@ -134,10 +134,12 @@ AreVisited-more rows m f o g n p inside is later reached visited = record {
 
 -- when every polygon found was visited, the marked polygons are those that are reached from polygon 0
 pub joined-from_search : (rows : List (List (Option Name))) (marks : List Bool) (found : List ℕ) (n : ℕ) → length found ≤ n → IsMarked marks 0 → IsSearch rows marks found → AreVisited rows marks found n → (p : ℕ) → (IsMarked marks p ↔ IsReachable rows p)
-joined-from_search rows marks found n all start s visited p =
-    (s.all_reached p, λ joined. joined (λ x. get_or marks x false) start (λ m twin is marked.
-    let w = s.all_found m.0 marked in
-    visited.neighbours w.0 m.1 twin (omega (arith, w.1)) (ap (λ (x : ℕ). entry_of rows (x, m.1)) w.2 ∙ is)))
+joined-from_search rows marks found n all start s visited p = (
+  s.all_reached p,
+  λ joined. joined (λ x. get_or marks x false) start (λ m twin is marked.
+      let w = s.all_found m.0 marked in
+      visited.neighbours w.0 m.1 twin (omega (arith, w.1)) (ap (λ (x : ℕ). entry_of rows (x, m.1)) w.2 ∙ is)),
+)
 
 -- no mark stands in a part of marks that has none
 pub unmarked_part : (n : ℕ) (marks : List Bool) → ((t : ℕ) → get_or marks t false ≡ false) → (t : ℕ) → get_or (take n marks) t false ≡ false

@@ -1,5 +1,5 @@
 -- The table of twins as glue lines fill it.
-use Rattle.std.proofs.Common.{◌≡◌, ◌≢◌, ◌↔◌, ℕ, zero, suc, ◌+◌, ◌-◌, ◌<◌, ◌≤◌, ◌⊎◌, inl, inr, List, [], ◌∷◌, ◌++◌, length, take, get_or, set, Option, Some, None, refl, sym, ap, subst, ◌∙◌, arith, below_more}
+use Rattle.std.proofs.Common.{◌≡◌, ◌≢◌, ◌↔◌, ℕ, zero, suc, ◌+◌, ◌-◌, ◌<◌, ◌⊎◌, inl, inr, List, [], ◌∷◌, ◌++◌, length, take, get_or, set, Option, Some, None, refl, sym, ap, subst, ◌∙◌, arith}
 use Rattle.std.specs.List.{AllByRecursion, Contains}
 use Rattle.std.proofs.lemmas.Bool.{cases_eq, cases_lt}
 use Rattle.std.proofs.lemmas.List.{get_or-set_same, get_or-set_other, get_or_append_left, get_or_push, length_push, length-set, take_more}
@@ -8,7 +8,7 @@ use Rattle.surface_text.specs.declared.file.Glue.{Glue}
 use Rattle.surface_text.specs.Limits.{NamesSides, IsThere}
 use Rattle.gluing.specs.declared.cause.Cause.{Cause}
 use Rattle.gluing.specs.declared.cause.Cause.TheVariants.{NotClosed, Flat, NotConvex, Twice, NotOpposite, Unpaired, ManyTriangles, Apart}
-use Rattle.gluing.specs.Gluings.{Name, first_of, second_of, names, no_glue, glue_at, NamesTwice, IsOpposite, IsPaired, AreTwins, triangle_count}
+use Rattle.gluing.specs.Gluings.{Name, Gluing, IsGluing, first_of, second_of, names, no_glue, glue_at, NamesTwice, IsPaired, AreTwins, triangle_count}
 use Rattle.gluing.specs.Tables.{row_at, entry_of, HasEntry, with_twin, with_glue, IsRepeated, HasShape, IsTable, IsLineCause, IsGlueCause, IsLineProper, IsRowFull, IsFirstFailure}
 use Rattle.gluing.proofs.Convex.{all_at}
 
@@ -115,9 +115,11 @@ glue-last glues g k e = get_or_push glues g no_glue k e
 
 AreTwins-left : (glues : List Glue) (g : Glue) (n t : Name) → AreTwins glues n t → AreTwins (glues ++ g ∷ []) n t
 AreTwins-left glues g n t twins =
-    let e : glue_at (glues ++ g ∷ []) twins.0 ≡ glue_at glues twins.0 = glue-left glues g twins.0 twins.1 in
-    (twins.0, (omega (arith, length_push glues g, twins.1)),
-    subst (λ (h : Glue). ((first_of h ≡ n) × (second_of h ≡ t)) ⊎ ((first_of h ≡ t) × (second_of h ≡ n))) (sym e) twins.2)
+    let e : glue_at (glues ++ g ∷ []) twins.0 ≡ glue_at glues twins.0 = glue-left glues g twins.0 twins.1 in (
+      twins.0,
+      (omega (arith, length_push glues g, twins.1)),
+      subst (λ (h : Glue). ((first_of h ≡ n) × (second_of h ≡ t)) ⊎ ((first_of h ≡ t) × (second_of h ≡ n))) (sym e) twins.2,
+    )
 
 -- with one more glue line, whose sides have no twins yet
 pub IsTable-more : (polygons : List (List Vec2)) (glues : List Glue) (rows : Rows) (g : Glue) → NamesSides polygons g → ¬ (IsRepeated rows g)
@@ -145,21 +147,21 @@ IsTable-more polygons glues rows g there new table =
             subst (λ (x : Glue). entry_of (with_glue rows g) (second_of x) ≡ Some (first_of x)) (sym (glue-last glues g k e)) (at_second rows g first second)
       ];
       twins = λ n t e.
-      let is : glue_at (glues ++ g ∷ []) (length glues) ≡ g = glue-last glues g (length glues) refl in
-      let inside : length glues < length (glues ++ g ∷ []) = omega (arith, length_push glues g) in
-      elim (cases_name n (second_of g)) [
-        | inl b ↦
-            let same : Some (first_of g) ≡ Some t = sym (at_second rows g first second) ∙ ap (entry_of (with_glue rows g)) (sym b) ∙ e in
-            let t_is : first_of g ≡ t = cc in
-            (length glues, inside, inr (ap first_of is ∙ t_is, ap second_of is ∙ sym b))
-        | inr not_second ↦ elim (cases_name n (first_of g)) [
-          | inl a ↦
-              let same : Some (second_of g) ≡ Some t = sym (at_first rows g first second apart) ∙ ap (entry_of (with_glue rows g)) (sym a) ∙ e in
-              let t_is : second_of g ≡ t = cc in
-              (length glues, inside, inl (ap first_of is ∙ sym a, ap second_of is ∙ t_is))
-          | inr not_first ↦ AreTwins-left glues g n t (table.twins n t (sym (at_other rows g first second n not_first not_second) ∙ e))
-        ]
-      ];
+          let is : glue_at (glues ++ g ∷ []) (length glues) ≡ g = glue-last glues g (length glues) refl in
+          let inside : length glues < length (glues ++ g ∷ []) = omega (arith, length_push glues g) in
+          elim (cases_name n (second_of g)) [
+            | inl b ↦
+                let same : Some (first_of g) ≡ Some t = sym (at_second rows g first second) ∙ ap (entry_of (with_glue rows g)) (sym b) ∙ e in
+                let t_is : first_of g ≡ t = cc in
+                (length glues, inside, inr (ap first_of is ∙ t_is, ap second_of is ∙ sym b))
+            | inr not_second ↦ elim (cases_name n (first_of g)) [
+              | inl a ↦
+                  let same : Some (second_of g) ≡ Some t = sym (at_first rows g first second apart) ∙ ap (entry_of (with_glue rows g)) (sym a) ∙ e in
+                  let t_is : second_of g ≡ t = cc in
+                  (length glues, inside, inl (ap first_of is ∙ sym a, ap second_of is ∙ t_is))
+              | inr not_first ↦ AreTwins-left glues g n t (table.twins n t (sym (at_other rows g first second n not_first not_second) ∙ e))
+            ]
+          ];
     }
 
 module _ {X : Type 0} where
@@ -218,8 +220,7 @@ twin_from_named polygons glues rows n table named = some_from (entry_of rows n) 
 pub repeated_names : (polygons : List (List Vec2)) (glues : List Glue) (rows : Rows) (k : ℕ) → IsTable polygons (take k glues) rows
     → (IsRepeated rows (glue_at glues k) ↔ NamesTwice glues k)
 repeated_names polygons glues rows k table =
-    let g = glue_at glues k in
-    (
+    let g = glue_at glues k in (
       (λ h. elim h [
         | inl a ↦ inl (named_from_entry polygons (take k glues) rows (first_of g) table a)
         | inr more ↦ elim more [
@@ -287,3 +288,13 @@ pub count-more : (polygons : List (List Vec2)) (p : ℕ) (sides : List Vec2) →
     → triangle_count (take (p + 1) polygons) ≡ triangle_count (take p polygons) + (length sides - 2)
 count-more polygons p sides inside e =
     ap triangle_count (take_more polygons p [] inside ∙ ap (λ (s : List Vec2). take p polygons ++ s ∷ []) e) ∙ count-push (take p polygons) sides
+
+-- an entry of a gluing's table is a twin
+pub twin_found : (view g : Gluing) (rows : Rows) (n t : Name) → view ≡ g → IsTable view.polygons view.glues rows → Some t ≡ entry_of rows n → AreTwins g.glues n t
+twin_found view g rows n t e table is = subst (λ (x : Gluing). AreTwins x.glues n t) e (table.twins n t (sym is))
+
+-- and each side has one
+pub twin_there : (view g : Gluing) (rows : Rows) (p e : ℕ) → view ≡ g → IsGluing view → IsTable view.polygons view.glues rows → IsThere g.polygons p e → ¬ (None ≡ entry_of rows (p, e))
+twin_there view g rows p e same valid table there is =
+    let here : IsThere view.polygons p e = subst (λ (x : Gluing). IsThere x.polygons p e) (sym same) there in
+    entry_from_named view.polygons view.glues rows (p, e) table (valid.paired p here.0 e here) (sym is)

@@ -1,10 +1,10 @@
 -- Bounded numbers: their sums, determinants and inner products are not wide.
-use Rattle.std.proofs.Common.{◌≡◌, suc, ◌-◌, sym, subst, ℕ, ◌+◌, ◌*◌, ◌<◌, ◌≤◌, ◌^◌, ℤ, pos, ◌+ℤ◌, ◌-ℤ◌, ◌*ℤ◌, FitsSigned, arith, lit<, lit≤, unsigned_abs}
+use Rattle.std.proofs.Common.{◌≡◌, suc, ◌-◌, sym, subst, ℕ, ◌+◌, ◌*◌, ◌<◌, ◌≤◌, ◌^◌, ℤ, pos, ◌+ℤ◌, ◌-ℤ◌, ◌*ℤ◌, arith, lit<, unsigned_abs}
 use Rattle.std.specs.Int.{w128}
 use Rattle.std.proofs.lemmas.Int.{fits_signed_from_abs, unsigned_abs-mul, ints}
 use Rattle.std.proofs.lemmas.Nat.{mul-le}
 use Rattle.quad_field.specs.declared.quad.Quad.{Quad}
-use Rattle.quad_field.specs.Quads.{quad_ops, product}
+use Rattle.quad_field.specs.Quads.{quad_ops}
 use Rattle.quad_field.specs.Width.{FitsI128, PartsFit, AllFit, product_steps, term_ops, StepsFit}
 use Rattle.plane.specs.declared.vec2.Vec2.{Vec2}
 use Rattle.plane.specs.Vectors.{Vector, det, vector, vector_term, vector_sum, VectorFits}
@@ -45,13 +45,26 @@ product_fits d x y low h k =
     let left : unsigned_abs ((x.a *ℤ y.a) +ℤ (pos d *ℤ (x.b *ℤ y.b))) ≤ 1001000000000000000000 =
     sum_abs (x.a *ℤ y.a) (pos d *ℤ (x.b *ℤ y.b)) 1000000000000000000 1000000000000000000000 whole times in
     let right : unsigned_abs ((x.a *ℤ y.b) +ℤ (x.b *ℤ y.a)) ≤ 2000000000000000000 =
-    sum_abs (x.a *ℤ y.b) (x.b *ℤ y.a) 1000000000000000000 1000000000000000000 first second in
-    (
-      (abs_fits (x.a *ℤ y.a) 1000000000000000000 whole (lit< tt), (abs_fits (x.b *ℤ y.b) 1000000000000000000 root (lit< tt),
-      (abs_fits (pos d *ℤ (x.b *ℤ y.b)) 1000000000000000000000 times (lit< tt),
-      (abs_fits ((x.a *ℤ y.a) +ℤ (pos d *ℤ (x.b *ℤ y.b))) 1001000000000000000000 left (lit< tt),
-      (abs_fits (x.a *ℤ y.b) 1000000000000000000 first (lit< tt), (abs_fits (x.b *ℤ y.a) 1000000000000000000 second (lit< tt),
-      (abs_fits ((x.a *ℤ y.b) +ℤ (x.b *ℤ y.a)) 2000000000000000000 right (lit< tt), tt))))))),
+    sum_abs (x.a *ℤ y.b) (x.b *ℤ y.a) 1000000000000000000 1000000000000000000 first second in (
+      (
+        abs_fits (x.a *ℤ y.a) 1000000000000000000 whole (lit< tt),
+        (
+          abs_fits (x.b *ℤ y.b) 1000000000000000000 root (lit< tt),
+          (
+            abs_fits (pos d *ℤ (x.b *ℤ y.b)) 1000000000000000000000 times (lit< tt),
+            (
+              abs_fits ((x.a *ℤ y.a) +ℤ (pos d *ℤ (x.b *ℤ y.b))) 1001000000000000000000 left (lit< tt),
+              (
+                abs_fits (x.a *ℤ y.b) 1000000000000000000 first (lit< tt),
+                (
+                  abs_fits (x.b *ℤ y.a) 1000000000000000000 second (lit< tt),
+                  (abs_fits ((x.a *ℤ y.b) +ℤ (x.b *ℤ y.a)) 2000000000000000000 right (lit< tt), tt),
+                ),
+              ),
+            ),
+          ),
+        ),
+      ),
       (left, omega (arith, right)),
     )
 
@@ -74,9 +87,10 @@ inner_fits d u v low h k =
 -- two vectors within m and n have a sum that isn't wide
 pub sum_fits : (d m n : ℕ) (u v : Vec2) → m + n < 2 ^ 127 → IsVectorWithin m (vector u) → IsVectorWithin n (vector v)
     → VectorFits d (vector_sum term_ops (vector_term u) (vector_term v))
-sum_fits d m n u v low h k =
-    ((tt, tt, within_fits (m + n) ((quad_ops d).add u.s v.s) (sum_within d m n u.s v.s h.0 k.0) low),
-    (tt, tt, within_fits (m + n) ((quad_ops d).add u.t v.t) (sum_within d m n u.t v.t h.1 k.1) low))
+sum_fits d m n u v low h k = (
+  (tt, tt, within_fits (m + n) ((quad_ops d).add u.s v.s) (sum_within d m n u.s v.s h.0 k.0) low),
+  (tt, tt, within_fits (m + n) ((quad_ops d).add u.t v.t) (sum_within d m n u.t v.t h.1 k.1) low),
+)
 
 -- and as many sides as n - j and one
 pub within_more : (d n i j : ℕ) (u s t : Vector Quad) → suc i ≡ j → j ≤ n → IsVectorWithin 1000000000 u → IsVectorWithin ((n - j) * 1000000000) s

@@ -1,5 +1,5 @@
 -- Numbers that are not wide, and what is said of one corner or one polygon.
-use Rattle.std.specs.Prelude.{◌≡◌, ℕ, ◌≤◌, ◌*◌, ◌<◌, List, length, Option, Some, None, unsigned_abs}
+use Rattle.std.specs.Prelude.{◌≡◌, ℕ, ◌≤◌, ◌<◌, List, length, Option, Some, None, unsigned_abs}
 use Rattle.quad_field.specs.Ring.{Ops}
 use Rattle.quad_field.specs.Quads.{quad_ops, IsPositive}
 use Rattle.quad_field.specs.declared.quad.Quad.{Quad}

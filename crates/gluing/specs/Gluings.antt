@@ -16,6 +16,7 @@ Name = ℕ × ℕ
 -- the side that a glue line names first, and the one that it names second
 abbrev pub first_of : Glue → Name
 first_of g = (g.p1, g.e1)
+
 abbrev pub second_of : Glue → Name
 second_of g = (g.p2, g.e2)
 

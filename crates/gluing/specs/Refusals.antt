@@ -1,11 +1,11 @@
 -- When the polygons of a file aren't glued to a surface, and the line that says so.
-use Rattle.std.specs.Prelude.{◌≡◌, ℕ, ◌+◌, ◌<◌, ◌≤◌, List, length, take, ⊤}
+use Rattle.std.specs.Prelude.{◌≡◌, ℕ, ◌+◌, ◌<◌, ◌≤◌, length, take, ⊤}
 use Rattle.surface_text.specs.Spelling.{Content}
 use Rattle.gluing.specs.declared.cause.Cause.{Cause}
 use Rattle.gluing.specs.declared.cause.Cause.TheVariants.{NotClosed, Flat, NotConvex, Twice, NotOpposite, Unpaired, ManyTriangles, Apart}
 use Rattle.gluing.specs.declared.fault.GlueFault.{GlueFault}
 use Rattle.gluing.specs.declared.fault.GlueFault.TheVariants.{Bad, Memory}
-use Rattle.gluing.specs.Polygons.{polygon_at, IsClosed, IsFlat, IsConvex, IsProper}
+use Rattle.gluing.specs.Polygons.{polygon_at, IsClosed, IsFlat, IsProper}
 use Rattle.gluing.specs.Gluings.{glue_at, NamesTwice, IsOpposite, IsPaired, triangle_count, IsJoined}
 
 -- the number of a cause

@@ -1,7 +1,7 @@
 -- The search for the polygons that are joined to polygon 0: a mark for each polygon, and the polygons in the order of their discovery.
 use Rattle.std.specs.Prelude.{◌≡◌, ℕ, ◌+◌, ◌<◌, ◌≤◌, Bool, false, not, IsTrue, List, length, slice_index, slice_index_or, count_by, Option, Some, Vec, vec_len, vec_capacity}
 use Rattle.gluing.specs.Gluings.{Name}
-use Rattle.gluing.specs.Tables.{row_at, entry_of}
+use Rattle.gluing.specs.Tables.{entry_of}
 
 -- each twin is a side of a polygon
 abbrev pub HasTwins : List (List (Option Name)) → Type 0

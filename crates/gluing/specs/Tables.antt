@@ -1,5 +1,5 @@
 -- The table of twins: a row for each polygon, in it an entry for each side, which is the side's twin once a glue line names it.
-use Rattle.std.specs.Prelude.{◌≡◌, ℕ, ◌+◌, ◌<◌, ◌≤◌, ◌⊎◌, Bool, IsTrue, List, [], length, map, take, get_or, Option, Some, None, Vec, slice_set}
+use Rattle.std.specs.Prelude.{◌≡◌, ℕ, ◌<◌, ◌⊎◌, List, [], length, map, get_or, Option, Some, None, Vec, slice_set}
 use Rattle.plane.specs.declared.vec2.Vec2.{Vec2}
 use Rattle.surface_text.specs.declared.file.Glue.{Glue}
 use Rattle.gluing.specs.declared.cause.Cause.{Cause}

@@ -35,7 +35,11 @@ fn check_polygons(f: &Field, file: &SurfaceFile) -> Result<(), GlueFault>
 }
 
 /// The table of all glue lines, where they pair opposite sides, each once.
-fn glue_lines(alloc: Global, f: &Field, file: &SurfaceFile) -> Result<Vec<Vec<Option<(u32, u32)>>>, GlueFault>
+fn glue_lines(
+    alloc: Global,
+    f: &Field,
+    file: &SurfaceFile,
+) -> Result<Vec<Vec<Option<(u32, u32)>>>, GlueFault>
     requires limits { IsWithinLimits (content file.now) }
     requires short { length (text (content file.now)) ≤ 1048576 }
     requires field { f.now ≡ file.now.field }
@@ -45,7 +49,12 @@ fn glue_lines(alloc: Global, f: &Field, file: &SurfaceFile) -> Result<Vec<Vec<Op
     ensures cause { IfErr result (IsFaultOf (content file.now)) }
 {
     let mut table = empty_table(alloc, file.polygons.as_slice())?;
-    match first_unglued(f, file.polygons.as_slice(), file.glues.as_slice(), &mut table) {
+    match first_unglued(
+        f,
+        file.polygons.as_slice(),
+        file.glues.as_slice(),
+        &mut table,
+    ) {
         Some((cause, k)) => Err(fault(file, cause, k)),
         None => Ok(table),
     }
@@ -81,7 +90,11 @@ fn check_triangles(file: &SurfaceFile) -> Result<(), GlueFault>
 }
 
 /// Whether all polygons are joined.
-fn check_joined(alloc: Global, file: &SurfaceFile, table: &[Vec<Option<(u32, u32)>>]) -> Result<(), GlueFault>
+fn check_joined(
+    alloc: Global,
+    file: &SurfaceFile,
+    table: &[Vec<Option<(u32, u32)>>],
+) -> Result<(), GlueFault>
     requires limits { IsWithinLimits (content file.now) }
     requires short { length (text (content file.now)) ≤ 1048576 }
     requires paired { AreSidesPaired (content file.now) }
@@ -97,7 +110,11 @@ fn check_joined(alloc: Global, file: &SurfaceFile, table: &[Vec<Option<(u32, u32
 }
 
 /// The table of the glue lines, where the polygons make a surface.
-pub fn check(alloc: Global, f: &Field, file: &SurfaceFile) -> Result<Vec<Vec<Option<(u32, u32)>>>, GlueFault>
+pub fn check(
+    alloc: Global,
+    f: &Field,
+    file: &SurfaceFile,
+) -> Result<Vec<Vec<Option<(u32, u32)>>>, GlueFault>
     requires limits { IsWithinLimits (content file.now) }
     requires short { length (text (content file.now)) ≤ 1048576 }
     requires field { f.now ≡ file.now.field }

@@ -15,7 +15,10 @@ fn empty_row(alloc: Global, polygon: &Polygon) -> Result<Vec<Option<(u32, u32)>>
 }
 
 /// The table before any glue line.
-pub fn empty_table(alloc: Global, polygons: &[Polygon]) -> Result<Vec<Vec<Option<(u32, u32)>>>, AllocError>
+pub fn empty_table(
+    alloc: Global,
+    polygons: &[Polygon],
+) -> Result<Vec<Vec<Option<(u32, u32)>>>, AllocError>
     ensures { IfOk result (λ table. IsTable (sides_of polygons.now) [] (rows_of table.items)) }
 {
     let mut table = Vec::new(alloc);

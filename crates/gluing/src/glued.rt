@@ -43,7 +43,11 @@ impl Model for Glued {
 }
 
 /// The polygons of a file that make a surface, with their table of twins.
-fn with_twins(alloc: Global, file: &SurfaceFile, twins: Vec<Vec<Option<(u32, u32)>>>) -> Result<Glued, GlueFault>
+fn with_twins(
+    alloc: Global,
+    file: &SurfaceFile,
+    twins: Vec<Vec<Option<(u32, u32)>>>,
+) -> Result<Glued, GlueFault>
     requires valid { IsGluing (record { field = file.now.field; polygons = (content file.now).polygons; glues = file.now.glues.items }) }
     requires table { IsTable (content file.now).polygons file.now.glues.items (rows_of twins.items) }
     ensures glued { IfOk result (λ g. (g.field ≡ file.now.field)

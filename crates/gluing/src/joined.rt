@@ -20,7 +20,10 @@ fn first_unmarked(marks: &[bool]) -> Option<usize>
 }
 
 /// The first polygon that isn't joined to polygon 0.
-pub fn first_apart(alloc: Global, table: &[Vec<Option<(u32, u32)>>]) -> Result<Option<usize>, AllocError>
+pub fn first_apart(
+    alloc: Global,
+    table: &[Vec<Option<(u32, u32)>>],
+) -> Result<Option<usize>, AllocError>
     requires some { 1 ≤ length table.now }
     requires few { length table.now ≤ 256 }
     requires twins { HasTwins (rows_of table.now) }

@@ -35,12 +35,21 @@ fn is_opposite(f: &Field, polygons: &[Polygon], g: &Glue) -> bool
     requires bounded { AllByRecursion IsPolygon (sides_of polygons.now) }
     ensures { IsTrue result ↔ IsOpposite f.now (sides_of polygons.now) g.now }
 {
-    let sum = add(f, side_of(polygons, g.p1, g.e1), side_of(polygons, g.p2, g.e2));
+    let sum = add(
+        f,
+        side_of(polygons, g.p1, g.e1),
+        side_of(polygons, g.p2, g.e2),
+    );
     is_zero(f, &sum)
 }
 
 /// Why a glue line is refused: the least cause, or none.
-fn cause_of_line(f: &Field, polygons: &[Polygon], table: &[Vec<Option<(u32, u32)>>], g: &Glue) -> Option<Cause>
+fn cause_of_line(
+    f: &Field,
+    polygons: &[Polygon],
+    table: &[Vec<Option<(u32, u32)>>],
+    g: &Glue,
+) -> Option<Cause>
     requires there { NamesSides (sides_of polygons.now) g.now }
     requires bounded { AllByRecursion IsPolygon (sides_of polygons.now) }
     requires shape { HasShape (sides_of polygons.now) (rows_of table.now) }
@@ -57,7 +66,12 @@ fn cause_of_line(f: &Field, polygons: &[Polygon], table: &[Vec<Option<(u32, u32)
 }
 
 /// Fills the table by the glue lines, up to the first that is refused, which is answered with its cause.
-pub fn first_unglued(f: &Field, polygons: &[Polygon], glues: &[Glue], table: &mut [Vec<Option<(u32, u32)>>]) -> Option<(Cause, usize)>
+pub fn first_unglued(
+    f: &Field,
+    polygons: &[Polygon],
+    glues: &[Glue],
+    table: &mut [Vec<Option<(u32, u32)>>],
+) -> Option<(Cause, usize)>
     requires there { AllByRecursion (NamesSides (sides_of polygons.now)) glues.now }
     requires bounded { AllByRecursion IsPolygon (sides_of polygons.now) }
     requires empty { IsTable (sides_of polygons.now) [] (rows_of table.old) }

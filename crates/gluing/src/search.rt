@@ -23,7 +23,13 @@ fn reach(marks: &mut [bool], found: &mut Vec<u32>, p: u32)
 }
 
 /// Reaches the polygon of a side's twin, where it has one.
-fn reach_twin(table: &[Vec<Option<(u32, u32)>>], p: usize, e: usize, marks: &mut [bool], found: &mut Vec<u32>)
+fn reach_twin(
+    table: &[Vec<Option<(u32, u32)>>],
+    p: usize,
+    e: usize,
+    marks: &mut [bool],
+    found: &mut Vec<u32>,
+)
     requires twins { HasTwins (rows_of table.now) }
     requires there { HasEntry (rows_of table.now) (p, e) }
     requires count { length (rows_of table.now) ≡ length marks.old }
@@ -42,7 +48,12 @@ fn reach_twin(table: &[Vec<Option<(u32, u32)>>], p: usize, e: usize, marks: &mut
 }
 
 /// Reaches the neighbours of polygon p, which is marked.
-fn reach_neighbours(table: &[Vec<Option<(u32, u32)>>], p: usize, marks: &mut [bool], found: &mut Vec<u32>)
+fn reach_neighbours(
+    table: &[Vec<Option<(u32, u32)>>],
+    p: usize,
+    marks: &mut [bool],
+    found: &mut Vec<u32>,
+)
     requires twins { HasTwins (rows_of table.now) }
     requires count { length (rows_of table.now) ≡ length marks.old }
     requires search { IsSearch (rows_of table.now) marks.old found.old.items }

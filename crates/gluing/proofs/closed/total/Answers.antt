@@ -1,4 +1,4 @@
-use Rattle.std.proofs.Common.{◌≡◌, ◌<◌, ◌≤◌, ◌-◌, suc, length, arith, refl}
+use Rattle.std.proofs.Common.{◌≡◌, ◌<◌, ◌-◌, suc, length, arith}
 use Rattle.plane.specs.Vectors.{vector}
 use Rattle.gluing.specs.Polygons.{vectors}
 use Rattle.gluing.proofs.Places.{length-vectors, total_more}

@@ -1,4 +1,4 @@
-use Rattle.std.proofs.Common.{◌≡◌, ℕ, ◌-◌, ◌*◌, ◌<◌, ◌≤◌, length, drop}
+use Rattle.std.proofs.Common.{◌≡◌, ◌-◌, ◌*◌, ◌<◌, ◌≤◌, length, drop}
 use Rattle.plane.specs.Vectors.{vector}
 use Rattle.gluing.specs.Polygons.{vectors, sum_of}
 use Rattle.gluing.specs.Bounds.{IsVectorWithin}

@@ -1,4 +1,4 @@
-use Rattle.std.proofs.Common.{◌≡◌, ◌∙◌, ◌≤◌, List, take, length, ap, arith}
+use Rattle.std.proofs.Common.{◌∙◌, ◌≤◌, List, length, ap, arith}
 use Rattle.std.proofs.lemmas.List.{take_all}
 use Rattle.surface_text.specs.declared.file.Polygon.{Polygon}
 use Rattle.gluing.specs.Parts.{sides_of}

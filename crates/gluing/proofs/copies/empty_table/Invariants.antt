@@ -1,5 +1,4 @@
-use Rattle.std.proofs.Common.{◌≡◌, take, map, length, replicate, None, List}
-use Rattle.plane.specs.declared.vec2.Vec2.{Vec2}
+use Rattle.std.proofs.Common.{◌≡◌, take}
 use Rattle.gluing.specs.Parts.{sides_of}
 use Rattle.gluing.specs.Tables.{rows_of}
 use Rattle.gluing.proofs.Rooms.{blank}

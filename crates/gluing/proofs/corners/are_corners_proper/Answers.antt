@@ -1,4 +1,4 @@
-use Rattle.std.proofs.Common.{ℕ, ◌<◌, length, refl, false, below_more, arith}
+use Rattle.std.proofs.Common.{◌<◌, length, refl, false, below_more, arith}
 use Rattle.std.proofs.lemmas.Bool.{both_ways}
 use Rattle.gluing.specs.Polygons.{vectors}
 use Rattle.gluing.specs.Bounds.{IsCornerProper}

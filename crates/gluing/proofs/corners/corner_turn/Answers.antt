@@ -1,5 +1,3 @@
-use Rattle.std.proofs.Common.{◌≡◌}
-use Rattle.quad_field.specs.declared.quad.Sign.{Sign}
 use Rattle.gluing.proofs.Places.{right_at, flat_at}
 use Rattle.gluing.proofs.corners.corner_turn.Goals as goal
 

@@ -1,4 +1,4 @@
-use Rattle.std.proofs.Common.{◌≡◌, ◌∙◌, sym, refl, false}
+use Rattle.std.proofs.Common.{◌≡◌, ◌∙◌, sym}
 use Rattle.std.proofs.lemmas.Bool.{both_ways}
 use Rattle.gluing.specs.Polygons.{side_at, vectors, no_vector}
 use Rattle.gluing.proofs.Places.{none_proper, plus_proper, zero_proper, minus_proper}

@@ -1,8 +1,8 @@
-use Rattle.std.proofs.Common.{◌≡◌, ◌∙◌, ap, not, sym}
+use Rattle.std.proofs.Common.{ap, not}
 use Rattle.std.proofs.lemmas.Bool.{both_ways}
 use Rattle.gluing.specs.Polygons.{IsUpper}
 use Rattle.plane.specs.Vectors.{vector}
-use Rattle.gluing.proofs.Places.{rises_at, stays_at}
+use Rattle.gluing.proofs.Places.{rises_at}
 use Rattle.gluing.proofs.corners.rises.Goals as goal
 
 pub returns-then-not-is_upper : goal.returns-then-not-is_upper

@@ -1,4 +1,4 @@
-use Rattle.std.proofs.Common.{◌≡◌, ℕ, ◌≤◌, length, arith, take, replicate, false}
+use Rattle.std.proofs.Common.{◌≡◌, ℕ, length, arith, take, replicate, false}
 use Rattle.std.proofs.lemmas.List.{length-take-le, length-replicate}
 use Rattle.gluing.specs.Tables.{rows_of}
 use Rattle.gluing.specs.Search.{IsMarked, IsReachable}

@@ -1,4 +1,4 @@
-use Rattle.std.proofs.Common.{◌≡◌, ◌<◌, ℕ, length, below_more}
+use Rattle.std.proofs.Common.{below_more}
 use Rattle.gluing.specs.Parts.{sides_of}
 use Rattle.gluing.specs.Tables.{rows_of, IsLineProper}
 use Rattle.gluing.proofs.Twins.{line_cause, line_proper, table_step}

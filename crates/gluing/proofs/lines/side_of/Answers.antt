@@ -1,4 +1,4 @@
-use Rattle.std.proofs.Common.{◌≡◌, ◌∙◌, List, ap}
+use Rattle.std.proofs.Common.{◌∙◌, List, ap}
 use Rattle.plane.specs.declared.vec2.Vec2.{Vec2}
 use Rattle.gluing.specs.Polygons.{vectors, side_at}
 use Rattle.gluing.proofs.lines.side_of.Goals as goal

@@ -1,5 +1,4 @@
-use Rattle.std.proofs.Common.{◌≡◌, ◌∙◌, ◌<◌, ℕ, List, Option, length, ap, sym, subst, below_more, arith}
-use Rattle.gluing.specs.Gluings.{Name}
+use Rattle.std.proofs.Common.{◌≡◌, ◌∙◌, ℕ, sym, subst, below_more}
 use Rattle.gluing.specs.Tables.{rows_of, row_at, IsRowFull}
 use Rattle.gluing.proofs.Rooms.{row_is}
 use Rattle.gluing.proofs.paired.first_unpaired.Goals as goal

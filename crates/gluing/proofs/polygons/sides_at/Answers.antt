@@ -1,7 +1,7 @@
 use Rattle.plane.specs.declared.vec2.Vec2.{Vec2}
-use Rattle.std.proofs.Common.{◌≡◌, ◌∙◌, ◌<◌, ◌≤◌, List, [], length, get_or, ap, sym, subst, arith}
+use Rattle.std.proofs.Common.{◌≡◌, ◌∙◌, ◌<◌, ◌≤◌, List, [], length, get_or, sym, subst, arith}
 use Rattle.std.specs.List.{AllByRecursion}
-use Rattle.std.proofs.lemmas.List.{get_or-map, length-map}
+use Rattle.std.proofs.lemmas.List.{get_or-map}
 use Rattle.surface_text.specs.Limits.{IsBoundedVector, IsPolygon}
 use Rattle.surface_text.specs.declared.file.Polygon.{Polygon}
 use Rattle.gluing.specs.Parts.{sides_of}

@@ -1,4 +1,4 @@
-use Rattle.std.proofs.Common.{◌≡◌, ◌∙◌, ◌<◌, ℕ, Some, length, sym, subst, arith}
+use Rattle.std.proofs.Common.{◌≡◌, ◌∙◌, ◌<◌, Some, length, sym, subst, arith}
 use Rattle.gluing.specs.Gluings.{Name}
 use Rattle.gluing.specs.Tables.{rows_of, entry_of}
 use Rattle.gluing.specs.Search.{IsReachable, IsMarked}

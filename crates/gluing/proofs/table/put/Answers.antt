@@ -1,7 +1,7 @@
-use Rattle.std.proofs.Common.{◌≡◌, ◌∙◌, ◌<◌, arith, ℕ, Option, Some, List, ap, sym, [], set, get_or, length, map}
+use Rattle.std.proofs.Common.{◌≡◌, ◌∙◌, ◌<◌, arith, ℕ, Option, Some, List, ap, sym, [], set, get_or, length}
 use Rattle.std.specs.Prelude.{Vec}
 use Rattle.std.specs.Vec.{with_item}
-use Rattle.std.proofs.lemmas.List.{map-set, get_or-map}
+use Rattle.std.proofs.lemmas.List.{map-set}
 use Rattle.gluing.specs.Gluings.{Name}
 use Rattle.gluing.specs.Tables.{rows_of}
 use Rattle.gluing.proofs.Rooms.{length-rows, row_read}
@@ -14,6 +14,6 @@ put_row {Z} table row p e twin is =
     ∙ ap (λ (items : List (Option Name)). set (rows_of table) p (set items e (Some twin))) (sym is)
 
 pub returns : goal.returns
-returns c = 
+returns c =
     let inside : c.args.p < length c.args.table.now = omega (arith, c.requires.0, length-rows c.args.table.now) in
     put_row c.args.table.now _ c.args.p c.args.e c.args.twin (row_read c.args.table.now c.args.p c.index-table-p.result inside)

@@ -1,4 +1,4 @@
-use Rattle.std.proofs.Common.{◌≡◌, ◌∙◌, ◌+◌, ◌-◌, ◌<◌, ◌≤◌, ℕ, length, take, arith, below_more}
+use Rattle.std.proofs.Common.{◌≡◌, ◌+◌, ◌<◌, ◌≤◌, ℕ, length, take, arith, below_more}
 use Rattle.gluing.specs.Gluings.{triangle_count}
 use Rattle.gluing.specs.Parts.{sides_of}
 use Rattle.gluing.proofs.Convex.{length-sides}

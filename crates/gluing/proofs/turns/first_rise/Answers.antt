@@ -1,4 +1,4 @@
-use Rattle.std.proofs.Common.{ℕ, ◌<◌, ◌≤◌, length, below_more, arith}
+use Rattle.std.proofs.Common.{ℕ, ◌<◌, ◌≤◌, below_more, arith}
 use Rattle.std.proofs.lemmas.Bool.{both_ways}
 use Rattle.gluing.specs.Polygons.{vectors, Rises}
 use Rattle.gluing.proofs.Places.{length-vectors}
