@@ -5,3 +5,4 @@ pub mod Twins
 pub mod Rooms
 pub mod Searches
 pub mod Causes
+pub mod Fixtures

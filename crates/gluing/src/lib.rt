@@ -23,3 +23,6 @@ mod vectors;
 
 pub use fault::GlueFault;
 pub use glued::{Glued, glue};
+
+#[cfg(test)]
+mod tests;
