@@ -1,0 +1,28 @@
+//! Polygons glued side to side: whether the polygons of a surface file make a surface.
+//! A file that makes none is refused with its first line that says so, and the least cause there.
+//! Whoever holds a `Glued` knows by its type that its polygons are convex, paired and connected.
+#![tactic(auto)]
+
+mod cause;
+mod checks;
+mod closed;
+mod copies;
+mod corners;
+mod fault;
+mod faults;
+mod glued;
+mod joined;
+mod lines;
+mod paired;
+mod polygons;
+mod search;
+mod table;
+mod triangles;
+mod turns;
+mod vectors;
+
+pub use fault::GlueFault;
+pub use glued::{Glued, glue};
+
+#[cfg(test)]
+mod tests;
