@@ -1,13 +1,3 @@
-pub mod Builds
 pub mod Edges
-pub mod Naming
-pub mod Narrow
+pub mod Surfaces
 pub mod Outcomes
-pub mod Tables
-pub mod Twins
-pub mod Splits
-pub mod Spelled
-pub mod NumberWords
-pub mod VectorWords
-pub mod Lines
-pub mod Files

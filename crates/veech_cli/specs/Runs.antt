@@ -1,9 +1,11 @@
 -- What a run of the program settles on, and what it hands out.
-use Rattle.std.specs.Prelude.{◌≡◌, ℕ, ◌<◌, ◌⊎◌, List, [], length, take, IfSome, ⊤}
+use Rattle.std.specs.Prelude.{◌≡◌, ℕ, ◌<◌, ◌⊎◌, List, [], length, take, IfSome, Result, IfErr, MatchResult, ⊤}
 use Rattle.std.specs.Option.{option_map}
 use Rattle.std.specs.declared.option.Option.{Option}
 use Rattle.io_ends.specs.Ends.{given, taken_after}
 use Rattle.tri_core.specs.declared.half.Half.{Half}
+use Rattle.surface_text.specs.Spelling.{Content}
+use Rattle.cone_points.specs.Angles.{AreTurns, IsGenus}
 use Rattle.veech_cli.specs.declared.command.Command.{Command}
 use Rattle.veech_cli.specs.declared.command.Command.TheVariants.{Check}
 use Rattle.veech_cli.specs.declared.status.Status.{Status}
@@ -11,14 +13,19 @@ use Rattle.veech_cli.specs.declared.status.Status.TheVariants.{Done, Words, File
 use Rattle.veech_cli.specs.declared.refusal.Refusal.{Refusal}
 use Rattle.veech_cli.specs.declared.refusal.Refusal.TheVariants as refusals
 use Rattle.veech_cli.specs.Commands.{Names, AreTaken}
-use Rattle.veech_cli.specs.TriangleFiles.{FileOfTriangles, IsBuilt, IsNotBuilt}
+use Rattle.veech_cli.specs.SurfaceFiles.{gluing_of, IsAccepted, IsTriangulationOf, IsRefused}
+use Rattle.gluing.specs.Gluings.{Gluing}
+use Rattle.tri_core.specs.Triangulation.{Triangulation}
 use Rattle.veech_cli.specs.Texts.{check_text, fault_line}
 
 -- what a command says to an input: a status, and the text that it writes with it
 abbrev pub Says : Command → List ℕ → Status → List ℕ → Type 0
-Says Check input Done text = (file : FileOfTriangles) × (halves : List Half) × IsBuilt input file halves × (text ≡ check_text halves)
+Says Check input Done text =
+    (file : Content) × (halves : List Half) × (turns : List ℕ) × (genus : ℕ)
+    × IsAccepted input file × IsTriangulationOf file halves × AreTurns file.field halves turns × IsGenus halves genus
+    × (text ≡ check_text halves turns genus)
 Says Check input Words text = ⊥
-Says Check input (File cause line) text = IsNotBuilt input × (cause ≡ 30) × (line ≡ 0) × (text ≡ fault_line (File cause line))
+Says Check input (File cause line) text = IsRefused input cause line × (text ≡ fault_line (File cause line))
 Says Check input ReadFault text = ⊥
 Says Check input WriteFault text = ⊥
 Says Check input Memory text = ⊥
@@ -63,8 +70,45 @@ SpeaksOfInput ReadFault = ⊥
 SpeaksOfInput WriteFault = ⊥
 SpeaksOfInput Memory = ⊥
 
--- a refusal of a command holds of its input
+-- a refusal of a command holds of its input, once that was read
+abbrev pub IsRefusalFor : Command → List ℕ → Refusal → Type 0
+IsRefusalFor command input (refusals.File cause line) = Says command input (File cause line) (fault_line (File cause line))
+IsRefusalFor command input refusals.ReadFault = ⊥
+IsRefusalFor command input refusals.Memory = ⊤
+
+-- and before, where the source may fail
 abbrev pub IsRefusalOf : Command → List ℕ → Refusal → Type 0
-IsRefusalOf command input refusals.NotBuilt = Says command input (File 30 0) (fault_line (File 30 0))
+IsRefusalOf command input (refusals.File cause line) = IsRefusalFor command input (refusals.File cause line)
 IsRefusalOf command input refusals.ReadFault = ⊤
 IsRefusalOf command input refusals.Memory = ⊤
+
+-- a call that refuses an input has refused it for this cause in this line, but for want of memory
+abbrev pub IsRefusedFor : {X : Type 0} → ℕ → ℕ → Result X Refusal → Type 0
+IsRefusedFor cause line result = MatchResult result (λ _. ⊥) (λ refusal. (refusal ≡ refusals.File cause line) ⊎ (refusal ≡ refusals.Memory))
+
+-- the input is accepted as a file over the field of √d, and its polygons are glued so
+abbrev pub IsGluedFrom : List ℕ → ℕ → Gluing → Type 0
+IsGluedFrom input d gluing = (file : Content) × IsAccepted input file × (d ≡ file.field) × (gluing ≡ gluing_of file)
+
+-- the input is accepted as a file over the field of √d, and this is its triangulation
+abbrev pub IsTriangulatedFrom : List ℕ → ℕ → Triangulation → Type 0
+IsTriangulatedFrom input d tri =
+    (file : Content) × IsAccepted input file × (d ≡ file.field) × (tri.field ≡ file.field) × IsTriangulationOf file tri.halves
+
+-- a refusal that isn't of the input: a failed source, or want of memory
+abbrev pub IsFailure : Refusal → Type 0
+IsFailure (refusals.File cause line) = ⊥
+IsFailure refusals.ReadFault = ⊤
+IsFailure refusals.Memory = ⊤
+
+-- what a command has to settle on for an input, unless it fails: output where the input is accepted, and else its refusal
+abbrev pub IsExpected : {X : Type 0} → Command → List ℕ → Result X Refusal → Type 0
+IsExpected Check input result =
+    ((file : Content) → IsAccepted input file → IfErr result IsFailure)
+    × ((cause line : ℕ) → IsRefused input cause line → MatchResult result (λ _. ⊥) (λ refusal. (refusal ≡ refusals.File cause line) ⊎ IsFailure refusal))
+
+-- how a command has to end on an input where no end fails, want of memory aside
+abbrev pub IsAnswerTo : Command → List ℕ → Status → Type 0
+IsAnswerTo Check input status =
+    ((file : Content) → IsAccepted input file → (status ≡ Done) ⊎ (status ≡ Memory))
+    × ((cause line : ℕ) → IsRefused input cause line → (status ≡ File cause line) ⊎ (status ≡ Memory))

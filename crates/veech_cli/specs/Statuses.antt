@@ -4,10 +4,12 @@ use Rattle.veech_cli.specs.declared.status.Status.{Status}
 use Rattle.veech_cli.specs.declared.status.Status.TheVariants.{Done, Words, File, ReadFault, WriteFault, Memory}
 use Rattle.veech_cli.specs.declared.refusal.Refusal.{Refusal}
 use Rattle.veech_cli.specs.declared.refusal.Refusal.TheVariants as refusals
-use Rattle.veech_cli.specs.declared.check.CheckFault.{CheckFault}
-use Rattle.veech_cli.specs.declared.check.CheckFault.TheVariants as check_faults
 use Rattle.io_ends.specs.declared.reading.ReadAll.{ReadAll}
 use Rattle.io_ends.specs.declared.reading.ReadAll.TheVariants as read_faults
+use Rattle.surface_text.specs.declared.file.TextFault.{TextFault}
+use Rattle.surface_text.specs.declared.file.TextFault.TheVariants as text_faults
+use Rattle.gluing.specs.declared.fault.GlueFault.{GlueFault}
+use Rattle.gluing.specs.declared.fault.GlueFault.TheVariants as glue_faults
 
 -- the number of each status
 abbrev pub number_of : Status → ℕ
@@ -20,17 +22,22 @@ number_of Memory = 10
 
 -- the status that says why there is no output
 abbrev pub status_of : Refusal → Status
-status_of refusals.NotBuilt = File 30 0
+status_of (refusals.File cause line) = File cause line
 status_of refusals.ReadFault = ReadFault
 status_of refusals.Memory = Memory
 
 -- what it means for a run that the source wasn't read
 abbrev pub refusal_of_reading : ReadAll → Refusal
 refusal_of_reading read_faults.Fault = refusals.ReadFault
-refusal_of_reading read_faults.TooLong = refusals.NotBuilt
+refusal_of_reading read_faults.TooLong = refusals.File 0 0
 refusal_of_reading read_faults.Memory = refusals.Memory
 
--- what it means for a run that the input wasn't checked
-abbrev pub refusal_of_check : CheckFault → Refusal
-refusal_of_check check_faults.NotBuilt = refusals.NotBuilt
-refusal_of_check check_faults.Memory = refusals.Memory
+-- what it means for a run that the text of the input is refused
+abbrev pub refusal_of_text : TextFault → Refusal
+refusal_of_text (text_faults.Bad cause line) = refusals.File cause line
+refusal_of_text text_faults.Memory = refusals.Memory
+
+-- what it means for a run that the polygons of the input aren't glued
+abbrev pub refusal_of_gluing : GlueFault → Refusal
+refusal_of_gluing (glue_faults.Bad cause line) = refusals.File cause line
+refusal_of_gluing glue_faults.Memory = refusals.Memory

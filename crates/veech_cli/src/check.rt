@@ -1,103 +1,67 @@
 //! The command `check`.
 
-ghost use Rattle.std.specs.Prelude.{◌≡◌, ◌↔◌, ◌≤◌, List, length, vec_len, IfOk, IsErrOf};
-ghost use Rattle.tri_core.specs.declared.half.Half.{Half};
-ghost use Rattle.veech_cli.specs.TriangleFiles.{FileOfTriangles, IsReadable, Builds, IsBuilt, IsNotBuilt};
-ghost use Rattle.veech_cli.specs.Contents.{content};
-ghost use Rattle.veech_cli.specs.Texts.{check_text, edge_count};
-ghost use Rattle.veech_cli.specs.declared.check.CheckFault.TheVariants.{Memory};
+ghost use Rattle.std.specs.Prelude.{◌≡◌, ◌≤◌, ◌++◌, ℕ, length, IfOk, OnOk, IfErr};
+ghost use Rattle.plane.specs.Spelling.{natural_text};
+ghost use Rattle.surface_text.specs.Spelling.{Content};
+ghost use Rattle.veech_cli.specs.SurfaceFiles.{IsAccepted, IsRefused};
+ghost use Rattle.veech_cli.specs.Runs.{Says, IsRefusalFor, IsRefusedFor};
+ghost use Rattle.veech_cli.specs.Texts.{check_text, edge_count, numbers_text};
+ghost use Rattle.veech_cli.specs.declared.command.Command.TheVariants.{Check};
+ghost use Rattle.veech_cli.specs.declared.status.Status.TheVariants.{Done};
+ghost use Rattle.veech_cli.specs.declared.refusal.Refusal.TheVariants.{Memory};
 
-use super::halves::half_edges;
-use super::reader::read;
-use super::triangle_file::TriangleFile;
+use super::refusal::Refusal;
+use super::surface::triangulate;
+use cone_points::{Cones, cones_of};
 use plane::put_natural;
-use quad_field::Field;
-use std::alloc::{AllocError, AllocFailed, Global};
-use tri_core::{BadTri, Tri};
+use std::alloc::{AllocError, Global};
+use tri_core::Tri;
 
-/// Why an input isn't checked.
-#[derive(Clone, Copy, Debug, PartialEq, Eq)]
-pub(crate) enum CheckFault {
-    /// It is no file that is built.
-    NotBuilt,
-    /// Memory ran out.
-    Memory,
-}
-
-impl From<AllocError> for CheckFault {
-    ghost from_gives = { λ _ fault. fault ≡ Memory };
-
-    fn from(_error: AllocError) -> CheckFault {
-        CheckFault::Memory
-    }
-}
-
-impl<T: Drop> From<AllocFailed<T>> for CheckFault {
-    ghost from_gives = { λ _ fault. fault ≡ Memory };
-
-    fn from(_error: AllocFailed<T>) -> CheckFault {
-        CheckFault::Memory
-    }
-}
-
-/// What `check` prints for an input, refused exactly where the input isn't built, but for want of memory.
-pub(crate) fn check(alloc: Global, input: &[u8]) -> Result<Vec<u8>, CheckFault>
+/// What `check` prints for an input, or why it is refused.
+pub(crate) fn check(alloc: Global, input: &[u8]) -> Result<Vec<u8>, Refusal>
     requires { length input.now ≤ 1048576 }
-    ensures built { IfOk result (λ text. (file : FileOfTriangles) × (halves : List Half)
-        × IsBuilt input.now file halves × (text.items ≡ check_text halves)) }
-    ensures not_built { IsErrOf result CheckFault.NotBuilt → IsNotBuilt input.now }
+    ensures said { IfOk result (λ text. Says Check input.now Done text.items) }
+    ensures refusal { IfErr result (IsRefusalFor Check input.now) }
+    ensures accepted { (file : Content) → IsAccepted input.now file → IfErr result (λ refusal. refusal ≡ Memory) }
+    ensures refused { (cause line : ℕ) → IsRefused input.now cause line → IsRefusedFor cause line result }
 {
-    let tri = build(alloc, input)?;
-    Ok(counts(alloc, &tri)?)
-}
-
-/// The triangulation of an input.
-fn build(alloc: Global, input: &[u8]) -> Result<Tri, CheckFault>
-    requires { length input.now ≤ 1048576 }
-    ensures built { IfOk result (λ tri. (file : FileOfTriangles) × IsBuilt input.now file tri.halves) }
-    ensures not_built { IsErrOf result CheckFault.NotBuilt → IsNotBuilt input.now }
-{
-    let file = read(alloc, input)?;
-    triangulate(alloc, &file)
-}
-
-/// The triangulation of a file.
-fn triangulate(alloc: Global, file: &TriangleFile) -> Result<Tri, CheckFault>
-    requires readable { IsReadable (content file.now) }
-    requires short { vec_len file.now.triangles ≤ 1048576 }
-    ensures built { IfOk result (λ tri. Builds (content file.now) tri.halves) }
-    ensures not_built { IsErrOf result CheckFault.NotBuilt → (halves : List Half) → ¬ (Builds (content file.now) halves) }
-{
-    let Some(field) = Field::make(file.field) else {
-        return Err(CheckFault::NotBuilt);
-    };
-    let halves = half_edges(alloc, file)?;
-    match Tri::make(alloc, &field, halves) {
-        Ok(tri) => Ok(tri),
-        Err(bad) => Err(fault_of(bad)),
-    }
-}
-
-/// What a refused triangulation means for the input.
-fn fault_of(bad: BadTri) -> CheckFault
-    ensures { (result ≡ CheckFault.Memory) ↔ (bad ≡ BadTri.Memory) }
-{
-    match bad {
-        BadTri::Memory => CheckFault::Memory,
-        _ => CheckFault::NotBuilt,
-    }
+    let (field, tri) = triangulate(alloc, input)?;
+    let cones = cones_of(alloc, &field, &tri)?;
+    Ok(counts(alloc, &tri, &cones)?)
 }
 
 /// The counts of a triangulation, as `check` prints them.
-fn counts(alloc: Global, tri: &Tri) -> Result<Vec<u8>, AllocError>
-    ensures { IfOk result (λ text. text.items ≡ check_text tri.now.halves) }
+fn counts(alloc: Global, tri: &Tri, cones: &Cones) -> Result<Vec<u8>, AllocError>
+    ensures { IfOk result (λ text. text.items ≡ check_text tri.now.halves cones.now.turns.items cones.now.genus) }
 {
-    let mut text = Vec::from_slice(alloc, b"valid\ntriangles ")?;
-    put_natural(alloc, &mut text, u64::from(tri.triangles()))?;
-    text.extend_from_slice(b"\nedges ")?;
-    put_natural(alloc, &mut text, u64::from(edges(tri)))?;
+    let mut text = Vec::new(alloc);
+    put_count(alloc, &mut text, b"valid\ntriangles ", u64::from(tri.triangles()))?;
+    put_count(alloc, &mut text, b"\nedges ", u64::from(edges(tri)))?;
+    put_count(alloc, &mut text, b"\nvertices ", cones.turns.len() as u64)?;
+    put_count(alloc, &mut text, b"\ngenus ", u64::from(cones.genus))?;
+    text.extend_from_slice(b"\ncones")?;
+    put_numbers(alloc, &mut text, cones.turns.as_slice())?;
     text.extend_from_slice(b"\nend\n")?;
     Ok(text)
+}
+
+/// Appends a label and a count.
+fn put_count(alloc: Global, out: &mut Vec<u8>, label: &[u8], count: u64) -> Result<(), AllocError>
+    ensures { OnOk result (out.new.items ≡ out.old.items ++ (label.now ++ natural_text count)) }
+{
+    out.extend_from_slice(label)?;
+    put_natural(alloc, out, count)
+}
+
+/// Appends numbers, each with a space before it.
+fn put_numbers(alloc: Global, out: &mut Vec<u8>, numbers: &[u32]) -> Result<(), AllocError>
+    ensures { OnOk result (out.new.items ≡ out.old.items ++ numbers_text numbers.now) }
+{
+    for number in numbers {
+        out.push(b' ')?;
+        put_natural(alloc, out, u64::from(*number))?;
+    }
+    Ok(())
 }
 
 /// How many edges there are.

@@ -1,14 +1,13 @@
 //! The commands of the program: words in, bytes in, bytes out and a status.
 #![tactic(auto)]
 
+mod cause;
 mod check;
 mod command;
-mod halves;
-mod reader;
 mod refusal;
 mod run;
 mod status;
-mod triangle_file;
+mod surface;
 mod words;
 
 pub use run::run_plain;

@@ -4,10 +4,12 @@ ghost use Rattle.std.specs.Prelude.{◌≡◌, ℕ, ◌≤◌, ◌⊎◌, List, 
 ghost use Rattle.std.specs.Option.{option_map};
 ghost use Rattle.std.specs.declared.option.Option.{Option};
 ghost use Rattle.io_ends.specs.Ends.{Rose, given};
-ghost use Rattle.tri_core.specs.declared.half.Half.{Half};
+ghost use Rattle.surface_text.specs.Spelling.{Content};
 ghost use Rattle.veech_cli.specs.Commands.{Names, AreTaken};
-ghost use Rattle.veech_cli.specs.TriangleFiles.{FileOfTriangles, IsBuilt, IsNotBuilt};
-ghost use Rattle.veech_cli.specs.Runs.{Says, Concludes, Settles, Delivers, IsInput, IsRefusalOf, IsReadWhole, SpeaksOfInput};
+ghost use Rattle.veech_cli.specs.SurfaceFiles.{IsAccepted, IsRefused};
+ghost use Rattle.veech_cli.specs.Runs.{Says, Concludes, Settles, Delivers, IsInput, IsRefusalOf, IsExpected, IsAnswerTo, IsReadWhole, SpeaksOfInput};
+ghost use Rattle.veech_cli.specs.Statuses.{status_of};
+ghost use Rattle.veech_cli.specs.Texts.{fault_line};
 ghost use Rattle.veech_cli.specs.declared.status.Status.{Status as Ending};
 
 use super::check::check;
@@ -15,7 +17,7 @@ use super::command::{Command, command_of};
 use super::refusal::Refusal;
 use super::{Status, WordList};
 use io_ends::{Sink, Source, WriteFault, read_all, write_all};
-use std::alloc::Global;
+use std::alloc::{AllocError, Global};
 
 /// The most bytes that an input may have.
 const INPUT_LIMIT: usize = 1_048_576;
@@ -53,18 +55,18 @@ pub fn run_plain<S: Source, K: Sink>(
     ensures source_never_falls { S.faults source.old ≤ S.faults source.new }
     ensures sink_never_falls { K.faults sink.old ≤ K.faults sink.new }
 
-    // `check` answers: where no end failed and the source tells its bytes, Done exactly where the input is built,
-    // and the refusal of the file exactly where it isn't, but for want of memory.
-    ensures built { Names words.now Command.Check
+    // `check` answers: where no end failed and the source tells its bytes, Done exactly where the input is accepted,
+    // and the refusal of the file exactly for the cause and the line for which it is refused, but for want of memory.
+    ensures accepted { Names words.now Command.Check
         → ¬ (Rose (S.faults source.old) (S.faults source.new))
         → ¬ (Rose (K.faults sink.old) (K.faults sink.new))
-        → IfSome (S.left source.old) (λ input. (file : FileOfTriangles) (halves : List Half)
-        → IsBuilt input file halves → (result ≡ Status.Done) ⊎ (result ≡ Status.Memory)) }
-    ensures not_built { Names words.now Command.Check
+        → IfSome (S.left source.old) (λ input. (file : Content) → IsAccepted input file
+        → (result ≡ Status.Done) ⊎ (result ≡ Status.Memory)) }
+    ensures bad_file { Names words.now Command.Check
         → ¬ (Rose (S.faults source.old) (S.faults source.new))
         → ¬ (Rose (K.faults sink.old) (K.faults sink.new))
-        → IfSome (S.left source.old) (λ input. IsNotBuilt input
-        → (result ≡ Status.File 30 0) ⊎ (result ≡ Status.Memory)) }
+        → IfSome (S.left source.old) (λ input. (cause line : ℕ) → IsRefused input cause line
+        → (result ≡ Status.File cause line) ⊎ (result ≡ Status.Memory)) }
 {
     match command_of(words) {
         Some(command) => answer(alloc, command, source, sink),
@@ -83,6 +85,8 @@ fn answer<S: Source, K: Sink>(
         × IsInput (S.left source.old) input
         × Concludes command input status text
         × Delivers status text result (K.taken sink.old) (K.taken sink.new) }
+    ensures expected { ¬ (Rose (S.faults source.old) (S.faults source.new)) → ¬ (Rose (K.faults sink.old) (K.faults sink.new))
+        → IfSome (S.left source.old) (λ input. IsAnswerTo command input result) }
     ensures all_read { result ≡ Status.Done → S.left source.new ≡ option_map (λ _. []) (S.left source.old) }
     ensures read_whole { SpeaksOfInput result → IsReadWhole (S.left source.old) (S.left source.new) }
     ensures reads { (n : ℕ) × (n ≤ 1048577) × (S.left source.new ≡ given n (S.left source.old)) }
@@ -93,7 +97,20 @@ fn answer<S: Source, K: Sink>(
 {
     match settle(alloc, command, source) {
         Ok(text) => deliver(sink, Status::Done, text.as_slice()),
-        Err(refusal) => deliver(sink, refusal.status(), refusal.line()),
+        Err(refusal) => refuse(alloc, sink, refusal),
+    }
+}
+
+/// Writes the line of a refusal, or of want of memory where there is none for it.
+fn refuse<K: Sink>(alloc: Global, sink: &mut K, refusal: Refusal) -> Status
+    ensures delivered { (status : Ending) × ((status ≡ status_of refusal) ⊎ (status ≡ Ending.Memory))
+        × Delivers status (fault_line status) result (K.taken sink.old) (K.taken sink.new) }
+    ensures fault { result ≡ Status.WriteFault → Rose (K.faults sink.old) (K.faults sink.new) }
+    ensures never_falls { K.faults sink.old ≤ K.faults sink.new }
+{
+    match refusal.line(alloc) {
+        Ok(line) => deliver(sink, refusal.status(), line.as_slice()),
+        Err(AllocError) => deliver(sink, Status::Memory, b"fault memory\n"),
     }
 }
 
@@ -104,7 +121,8 @@ fn settle<S: Source>(alloc: Global, command: Command, source: &mut S) -> Result<
     ensures refused { IfErr result (λ refusal. (input : List ℕ) × IsInput (S.left source.old) input
         × IsRefusalOf command input refusal) }
     ensures all_read { OnOk result (S.left source.new ≡ option_map (λ _. []) (S.left source.old)) }
-    ensures read_whole { IsErrOf result Refusal.NotBuilt → IsReadWhole (S.left source.old) (S.left source.new) }
+    ensures read_whole { (cause line : ℕ) → IsErrOf result (Refusal.File cause line) → IsReadWhole (S.left source.old) (S.left source.new) }
+    ensures expected { IfSome (S.left source.old) (λ input. IsExpected command input result) }
     ensures reads { (n : ℕ) × (n ≤ 1048577) × (S.left source.new ≡ given n (S.left source.old)) }
     ensures read_fault { IsErrOf result Refusal.ReadFault → Rose (S.faults source.old) (S.faults source.new) }
     ensures never_falls { S.faults source.old ≤ S.faults source.new }

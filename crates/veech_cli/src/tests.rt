@@ -7,31 +7,53 @@ use io_ends::{MemSink, MemSource};
 use std::alloc::{AllocError, Global};
 use std::test::Fail;
 
-/// A square torus, cut along a diagonal.
+/// A square torus.
 const TORUS: &[u8] =
-    b"flat 1\nfield 2\npolygon 1,0 0,1 -1,-1\npolygon 1,1 -1,0 0,-1\nglue 0.0 1.1\nglue 0.1 1.2\nglue 0.2 1.0\nend\n";
-
-/// What `check` writes for it.
-const TORUS_COUNTS: &[u8] = b"valid\ntriangles 2\nedges 3\nend\n";
-
-/// The same with a triangle that isn't closed.
-const OPEN: &[u8] =
-    b"flat 1\nfield 2\npolygon 1,0 0,1 -1,-2\npolygon 1,1 -1,0 0,-1\nglue 0.0 1.1\nglue 0.1 1.2\nglue 0.2 1.0\nend\n";
-
-/// A square, which is no triangle.
-const SQUARE: &[u8] =
     b"flat 1\nfield 2\npolygon 1,0 0,1 -1,0 0,-1\nglue 0.1 0.3\nglue 0.2 0.0\nend\n";
 
-/// A torus of side 100,000, the largest number that is read.
-const LARGE: &[u8] =
-    b"flat 1\nfield 2\npolygon 100000,0 0,100000 -100000,-100000\npolygon 100000,100000 -100000,0 0,-100000\nglue 0.0 1.1\nglue 0.1 1.2\nglue 0.2 1.0\nend\n";
+/// The same torus, cut along a diagonal.
+const TORUS_TRIANGLES: &[u8] =
+    b"flat 1\nfield 2\npolygon 1,0 0,1 -1,-1\npolygon 1,1 -1,0 0,-1\nglue 0.0 1.1\nglue 0.1 1.2\nglue 0.2 1.0\nend\n";
 
-/// One of side 100,001.
-const TOO_LARGE: &[u8] =
-    b"flat 1\nfield 2\npolygon 100001,0 0,100001 -100001,-100001\npolygon 100001,100001 -100001,0 0,-100001\nglue 0.0 1.1\nglue 0.1 1.2\nglue 0.2 1.0\nend\n";
+/// Three squares in an L.
+const L_THREE_SQUARES: &[u8] =
+    b"flat 1\nfield 2\npolygon 1,0 0,1 -1,0 0,-1\npolygon 1,0 0,1 -1,0 0,-1\npolygon 1,0 0,1 -1,0 0,-1\nglue 0.1 1.3\nglue 1.1 0.3\nglue 2.1 2.3\nglue 0.2 2.0\nglue 1.2 1.0\nglue 2.2 0.0\nend\n";
 
-/// The line of a file that isn't built.
-const NOT_BUILT: &[u8] = b"fault file 30 0 NotBuilt\n";
+/// Four squares in an L.
+const L_FOUR_SQUARES: &[u8] =
+    b"flat 1\nfield 2\npolygon 1,0 0,1 -1,0 0,-1\npolygon 1,0 0,1 -1,0 0,-1\npolygon 1,0 0,1 -1,0 0,-1\npolygon 1,0 0,1 -1,0 0,-1\nglue 0.1 1.3\nglue 1.1 2.3\nglue 2.1 0.3\nglue 3.1 3.3\nglue 0.2 3.0\nglue 3.2 0.0\nglue 1.2 1.0\nglue 2.2 2.0\nend\n";
+
+/// The regular octagon.
+const OCTAGON: &[u8] =
+    b"flat 1\nfield 2\npolygon 2,0 0+1r,0+1r 0,2 0-1r,0+1r -2,0 0-1r,0-1r 0,-2 0+1r,0-1r\nglue 0.0 0.4\nglue 0.1 0.5\nglue 0.2 0.6\nglue 0.3 0.7\nend\n";
+
+/// The golden L.
+const GOLDEN_L: &[u8] =
+    b"flat 1\nfield 5\npolygon 2,0 0,2 -2,0 0,-2\npolygon -1+1r,0 0,2 1-1r,0 0,-2\npolygon 2,0 0,-1+1r -2,0 0,1-1r\nglue 0.1 1.3\nglue 1.1 0.3\nglue 0.2 2.0\nglue 2.2 0.0\nglue 1.2 1.0\nglue 2.1 2.3\nend\n";
+
+/// A rectangle with flat corners under a square.
+const FLAT_CORNERS: &[u8] =
+    b"flat 1\nfield 2\npolygon 1,0 1,0 0,1 -1,0 -1,0 0,-1\npolygon 1,0 0,1 -1,0 0,-1\nglue 0.2 0.5\nglue 0.0 1.2\nglue 0.1 0.3\nglue 0.4 1.0\nglue 1.1 1.3\nend\n";
+
+/// Two regular pentagons, in an affine frame.
+const DOUBLE_PENTAGON: &[u8] =
+    b"flat 1\nfield 5\npolygon 2,0 0,2 -2,-1+1r 1-1r,1-1r -1+1r,-2\npolygon -2,0 0,-2 2,1-1r -1+1r,-1+1r 1-1r,2\nglue 0.0 1.0\nglue 0.1 1.1\nglue 0.2 1.2\nglue 0.3 1.3\nglue 0.4 1.4\nend\n";
+
+/// What `check` writes for a torus.
+const TORUS_COUNTS: &[u8] =
+    b"valid\ntriangles 2\nedges 3\nvertices 1\ngenus 1\ncones 1\nend\n";
+
+/// What it writes for a surface of genus 2 with one cone point, cut into six triangles.
+const ONE_CONE: &[u8] =
+    b"valid\ntriangles 6\nedges 9\nvertices 1\ngenus 2\ncones 3\nend\n";
+
+/// A torus of two squares in a row, both lattice points marked.
+const TWO_SQUARES: &[u8] =
+    b"flat 1\nfield 2\npolygon 1,0 0,1 -1,0 0,-1\npolygon 1,0 0,1 -1,0 0,-1\nglue 0.1 1.3\nglue 1.1 0.3\nglue 0.2 0.0\nglue 1.2 1.0\nend\n";
+
+/// A square torus whose side has the greatest numbers of a file.
+const LARGE_TORUS: &[u8] =
+    b"flat 1\nfield 997\npolygon 1000000000+1000000000r,0 0,1000000000+1000000000r -1000000000-1000000000r,0 0,-1000000000-1000000000r\nglue 0.1 0.3\nglue 0.2 0.0\nend\n";
 
 /// How the ends of a run behave: the most that a call moves, the source's call that fails, and the sink's room.
 #[derive(Clone, Copy)]
@@ -49,7 +71,7 @@ fn moving(most: usize) -> Ends
     Ends {
         most,
         failing_read: None,
-        room: 4096,
+        room: 8192,
     }
 }
 
@@ -76,51 +98,135 @@ fn run(
     Ok((status_number(&status), written))
 }
 
-/// Two triangles for each of n squares in a row, whose right end is glued to the left one, and one triangle more
-/// that is glued to nothing where it is wanted.
+/// Squares in a row, the right of the last glued to the left of the first.
 fn row_of_squares(alloc: Global, n: u32, lone: bool) -> Result<String, AllocError>
     requires { n ≤ 1000 }
 {
     let mut text = String::from_str(alloc, "flat 1\nfield 2\n")?;
     for _ in 0..n {
-        text.push_str("polygon 1,0 0,1 -1,-1\npolygon 1,1 -1,0 0,-1\n")?;
+        text.push_str("polygon 1,0 0,1 -1,0 0,-1\n")?;
     }
     if lone {
-        text.push_str("polygon 1,0 0,1 -1,-1\n")?;
+        text.push_str("polygon 1,0 0,1 -1,0 0,-1\n")?;
     }
     for i in 0..n {
-        let lower = 2 * i;
-        let upper = 2 * i + 1;
-        let next = if i + 1 == n { 1 } else { 2 * i + 3 };
-        let glues = format!(in alloc;
-            "glue {lower}.0 {upper}.1\nglue {lower}.1 {next}.2\nglue {lower}.2 {upper}.0\n"
-        )?;
+        let next = if i + 1 == n { 0 } else { i + 1 };
+        let glues = format!(in alloc; "glue {i}.1 {next}.3\nglue {i}.2 {i}.0\n")?;
+        text.push_str(glues.as_str())?;
+    }
+    if lone {
+        let glues = format!(in alloc; "glue {n}.1 {n}.3\nglue {n}.2 {n}.0\n")?;
         text.push_str(glues.as_str())?;
     }
     text.push_str("end\n")?;
     Ok(text)
 }
 
+/// An L of squares: so many in a row, and above the first of them so many in a column.
+fn l_of_squares(alloc: Global, row: u32, column: u32) -> Result<String, AllocError>
+    requires { row ≤ 1000 }
+    requires { column ≤ 1000 }
+{
+    let mut text = String::from_str(alloc, "flat 1\nfield 2\n")?;
+    for _ in 0..row + column {
+        text.push_str("polygon 1,0 0,1 -1,0 0,-1\n")?;
+    }
+    for i in 0..row {
+        let right = if i + 1 == row { 0 } else { i + 1 };
+        let glue = format!(in alloc; "glue {i}.1 {right}.3\n")?;
+        text.push_str(glue.as_str())?;
+    }
+    for i in row..row + column {
+        let glue = format!(in alloc; "glue {i}.1 {i}.3\n")?;
+        text.push_str(glue.as_str())?;
+    }
+    for i in 0..row + column {
+        let up = if i == 0 {
+            row
+        } else if i < row {
+            i
+        } else if i + 1 == row + column {
+            0
+        } else {
+            i + 1
+        };
+        let glue = format!(in alloc; "glue {i}.2 {up}.0\n")?;
+        text.push_str(glue.as_str())?;
+    }
+    text.push_str("end\n")?;
+    Ok(text)
+}
+
+/// A torus of one rectangle, n long and 1 high, with flat corners all along.
+fn long_rectangle(alloc: Global, n: u32) -> Result<String, AllocError>
+    requires { n ≤ 1000 }
+{
+    let mut text = String::from_str(alloc, "flat 1\nfield 2\npolygon")?;
+    for _ in 0..n {
+        text.push_str(" 1,0")?;
+    }
+    text.push_str(" 0,1")?;
+    for _ in 0..n {
+        text.push_str(" -1,0")?;
+    }
+    text.push_str(" 0,-1\n")?;
+    for i in 0..n {
+        let above = 2 * n - i;
+        let glue = format!(in alloc; "glue 0.{i} 0.{above}\n")?;
+        text.push_str(glue.as_str())?;
+    }
+    let left = 2 * n + 1;
+    let glue = format!(in alloc; "glue 0.{n} 0.{left}\nend\n")?;
+    text.push_str(glue.as_str())?;
+    Ok(text)
+}
+
+/// What `check` writes for a surface of these counts, whose vertices turn once but for the last ones.
+fn counts(
+    alloc: Global,
+    triangles: u32,
+    edges: u32,
+    vertices: u32,
+    genus: u32,
+    ones: u32,
+    last: &str,
+) -> Result<String, AllocError> {
+    let mut text = format!(in alloc;
+        "valid\ntriangles {triangles}\nedges {edges}\nvertices {vertices}\ngenus {genus}\ncones"
+    )?;
+    for _ in 0..ones {
+        text.push_str(" 1")?;
+    }
+    text.push_str(last)?;
+    text.push_str("\nend\n")?;
+    Ok(text)
+}
+
 #[test]
-fn answers_in_any_pieces(rt: HostRuntime) -> Result<(), Fail> {
+fn checks_every_example(rt: HostRuntime) -> Result<(), Fail> {
     let alloc = rt.alloc();
-    let rows: [(&[&str], &[u8], u8, &[u8]); 11] = [
-        (&["check"], TORUS, 0, TORUS_COUNTS),
-        (&["check"], OPEN, 3, NOT_BUILT),
-        (&["check"], LARGE, 0, TORUS_COUNTS),
-        (&["check"], TOO_LARGE, 3, NOT_BUILT),
-        (&["check"], SQUARE, 3, NOT_BUILT),
-        (&["check"], b"", 3, NOT_BUILT),
-        (&[], TORUS, 2, b"fault words\n"),
-        (&["check", "check"], TORUS, 2, b"fault words\n"),
-        (&["plan"], TORUS, 2, b"fault words\n"),
-        (&["--help"], TORUS, 2, b"fault words\n"),
-        (&["check "], TORUS, 2, b"fault words\n"),
+    let rows: [(&[u8], &[u8]); 10] = [
+        (TORUS, TORUS_COUNTS),
+        (TORUS_TRIANGLES, TORUS_COUNTS),
+        (LARGE_TORUS, TORUS_COUNTS),
+        (L_THREE_SQUARES, ONE_CONE),
+        (FLAT_CORNERS, ONE_CONE),
+        (OCTAGON, ONE_CONE),
+        (GOLDEN_L, ONE_CONE),
+        (DOUBLE_PENTAGON, ONE_CONE),
+        (
+            L_FOUR_SQUARES,
+            b"valid\ntriangles 8\nedges 12\nvertices 2\ngenus 2\ncones 1 3\nend\n",
+        ),
+        (
+            TWO_SQUARES,
+            b"valid\ntriangles 4\nedges 6\nvertices 2\ngenus 1\ncones 1 1\nend\n",
+        ),
     ];
-    for (words, input, status, text) in rows {
+    for (input, text) in rows {
         for most in [1, 7, 4096] {
-            let (ended, written) = run(alloc, words, input, moving(most))?;
-            assert_eq!(rt; ended, status);
+            let (ended, written) = run(alloc, &["check"], input, moving(most))?;
+            assert_eq!(rt; ended, 0);
             assert_eq!(rt; written.as_slice(), text);
         }
     }
@@ -128,9 +234,164 @@ fn answers_in_any_pieces(rt: HostRuntime) -> Result<(), Fail> {
 }
 
 #[test]
+fn refuses_words(rt: HostRuntime) -> Result<(), Fail> {
+    let rows: [&[&str]; 6] = [
+        &[],
+        &["check", "check"],
+        &["plan"],
+        &["--help"],
+        &["check "],
+        &[""],
+    ];
+    for words in rows {
+        let (ended, written) = run(rt.alloc(), words, TORUS, moving(4096))?;
+        assert_eq!(rt; ended, 2);
+        assert_eq!(rt; written.as_slice(), b"fault words\n".as_slice());
+    }
+    Ok(())
+}
+
+#[test]
+fn names_the_cause_and_the_line(rt: HostRuntime) -> Result<(), Fail> {
+    let alloc = rt.alloc();
+    let rows: [(&[u8], &[u8]); 21] = [
+        (b"", b"fault file 1 1 NoLine\n"),
+        (
+            b"flat 1\nfield 2\npolygon 1,0 0,1 -1,0 0,-1\nglue 0.1 0.3\nglue 0.2 0.",
+            b"fault file 2 5 CutLine\n",
+        ),
+        (
+            b"flat 1\nfield 2\npolygon 1,0 0,1 -1,0 0,-1\nglue 0.1 0.3\nglue 0.2 0.0\n",
+            b"fault file 1 6 NoLine\n",
+        ),
+        (
+            b"flat 1\nfield 2\npolygon 1,0 0,1 -1,0 0,-1\nglue 0.1 0.3\nglue 0.2 0.0\nend\nx\n",
+            b"fault file 14 7 AfterEnd\n",
+        ),
+        (
+            b"flat 1\nfield\t2\npolygon 1,0 0,1 -1,0 0,-1\nglue 0.1 0.3\nglue 0.2 0.0\nend\n",
+            b"fault file 3 2 BadByte\n",
+        ),
+        (
+            b"flat 1\nglue 0.1 0.3\nglue 0.2 0.0\nend\n",
+            b"fault file 5 2 BadKind\n",
+        ),
+        (
+            b"flat 1\nfield 2\npolygon 1,0 0,01 -1,0 0,-1\nglue 0.1 0.3\nglue 0.2 0.0\nend\n",
+            b"fault file 6 3 BadForm\n",
+        ),
+        (
+            b"flat 1\nfield 2\npolygon 1,0 0,1000000001 -1,0 0,-1000000001\nglue 0.1 0.3\nglue 0.2 0.0\nend\n",
+            b"fault file 7 3 BadNumber\n",
+        ),
+        (
+            b"flat 1\nfield 12\npolygon 1,0 0,1 -1,0 0,-1\nglue 0.1 0.3\nglue 0.2 0.0\nend\n",
+            b"fault file 8 2 BadField\n",
+        ),
+        (
+            b"flat 1\nfield 2\nbase 1 1\npolygon 1,0 0,1 -1,0 0,-1\nglue 0.1 0.3\nglue 0.2 0.0\nend\n",
+            b"fault file 9 3 BadBase\n",
+        ),
+        (
+            b"flat 1\nfield 2\npolygon 1,0 -1,0\nglue 0.0 0.1\nend\n",
+            b"fault file 11 3 FewSides\n",
+        ),
+        (
+            b"flat 1\nfield 2\npolygon 1,0 0,1 -1,0 0,-1\nglue 0.4 0.0\nglue 0.2 0.0\nend\n",
+            b"fault file 13 4 BadName\n",
+        ),
+        (
+            b"flat 1\nfield 2\npolygon 1,0 0,1 -1,0 0,-2\nglue 0.1 0.3\nglue 0.2 0.0\nend\n",
+            b"fault file 15 3 NotClosed\n",
+        ),
+        (
+            b"flat 1\nfield 2\npolygon 1,0 1,0 -1,0 -1,0\nglue 0.1 0.3\nglue 0.2 0.0\nend\n",
+            b"fault file 16 3 Flat\n",
+        ),
+        (
+            b"flat 1\nfield 2\nbase 0 2\npolygon 1,0 0,-1 -1,0 0,1\nglue 0.1 0.3\nglue 0.2 0.0\nend\n",
+            b"fault file 17 4 NotConvex\n",
+        ),
+        (
+            b"flat 1\nfield 2\npolygon 1,0 0,1 -1,0 0,-1\nglue 0.1 0.3\nglue 0.1 0.0\nend\n",
+            b"fault file 18 5 Twice\n",
+        ),
+        (
+            b"flat 1\nfield 2\npolygon 1,0 0,1 -1,0 0,-1\nglue 0.0 0.0\nglue 0.2 0.0\nend\n",
+            b"fault file 18 4 Twice\n",
+        ),
+        (
+            b"flat 1\nfield 2\npolygon 1,0 0,1 -1,0 0,-1\nglue 0.0 0.1\nglue 0.2 0.0\nend\n",
+            b"fault file 19 4 NotOpposite\n",
+        ),
+        (
+            b"flat 1\nfield 2\npolygon 1,0 0,1 -1,0 0,-1\nglue 0.1 0.3\nend\n",
+            b"fault file 20 3 Unpaired\n",
+        ),
+        (
+            b"flat 1\nfield 2\npolygon 1,0 0,1 -1,0 0,-1\npolygon 1,0 0,1 -1,0 0,-1\nglue 0.1 0.3\nglue 0.2 0.0\nglue 1.1 1.3\nglue 1.2 1.0\nend\n",
+            b"fault file 22 4 Apart\n",
+        ),
+        (
+            b"flat 1\nfield 2\npolygon 1,0 0,1 -1,-2\npolygon 1,1 -1,0 0,-1\nglue 0.0 1.1\nglue 0.1 1.2\nglue 0.2 1.0\nend\n",
+            b"fault file 15 3 NotClosed\n",
+        ),
+    ];
+    for (input, text) in rows {
+        for most in [1, 4096] {
+            let (ended, written) = run(alloc, &["check"], input, moving(most))?;
+            assert_eq!(rt; ended, 3);
+            assert_eq!(rt; written.as_slice(), text);
+        }
+    }
+    Ok(())
+}
+
+#[test]
+fn keeps_to_the_limits(rt: HostRuntime) -> Result<(), Fail> {
+    let alloc = rt.alloc();
+    let large = l_of_squares(alloc, 51, 50)?;
+    let large_counts = counts(alloc, 202, 303, 99, 2, 98, " 3")?;
+    let rectangle = long_rectangle(alloc, 128)?;
+    let rectangle_counts = counts(alloc, 256, 384, 128, 1, 128, "")?;
+    let most = row_of_squares(alloc, 128, false)?;
+    let most_counts = counts(alloc, 256, 384, 128, 1, 128, "")?;
+    for (input, text) in [
+        (large.as_bytes(), large_counts.as_bytes()),
+        (rectangle.as_bytes(), rectangle_counts.as_bytes()),
+        (most.as_bytes(), most_counts.as_bytes()),
+    ] {
+        let (ended, written) = run(alloc, &["check"], input, moving(4096))?;
+        assert_eq!(rt; ended, 0);
+        assert_eq!(rt; written.as_slice(), text);
+    }
+    let one_more = row_of_squares(alloc, 128, true)?;
+    let two_more = row_of_squares(alloc, 129, false)?;
+    for input in [one_more.as_bytes(), two_more.as_bytes()] {
+        let (ended, written) = run(alloc, &["check"], input, moving(4096))?;
+        assert_eq!(rt; ended, 3);
+        assert_eq!(rt;
+            written.as_slice(),
+            b"fault file 21 131 ManyTriangles\n".as_slice()
+        );
+    }
+    let rows: [(usize, &[u8]); 2] = [
+        (1_048_576, b"fault file 4 1 BadFirst\n"),
+        (1_048_577, b"fault file 0 0 TooLong\n"),
+    ];
+    for (length, text) in rows {
+        let lines = vec![in alloc; b'\n'; length]?;
+        let (ended, written) = run(alloc, &["check"], lines.as_slice(), moving(65536))?;
+        assert_eq!(rt; ended, 3);
+        assert_eq!(rt; written.as_slice(), text);
+    }
+    Ok(())
+}
+
+#[test]
 fn blames_the_end_that_failed(rt: HostRuntime) -> Result<(), Fail> {
     let alloc = rt.alloc();
-    for call in [0, 3, 14] {
+    for call in [0, 3, 9] {
         let ends = Ends {
             most: 7,
             failing_read: Some(call),
@@ -145,70 +406,35 @@ fn blames_the_end_that_failed(rt: HostRuntime) -> Result<(), Fail> {
         failing_read: None,
         room: 4,
     };
-    let (ended, written) = run(alloc, &["check"], TORUS, small)?;
-    assert_eq!(rt; ended, 9);
-    assert_eq!(rt; written.as_slice(), b"vali".as_slice());
-    let (ended, written) = run(alloc, &["plan"], TORUS, small)?;
-    assert_eq!(rt; ended, 9);
-    assert_eq!(rt; written.as_slice(), b"faul".as_slice());
+    let rows: [(&str, &[u8], &[u8]); 3] = [
+        ("check", TORUS, b"vali"),
+        ("check", b"", b"faul"),
+        ("plan", TORUS, b"faul"),
+    ];
+    for (word, input, text) in rows {
+        let (ended, written) = run(alloc, &[word], input, small)?;
+        assert_eq!(rt; ended, 9);
+        assert_eq!(rt; written.as_slice(), text);
+    }
     Ok(())
 }
 
+/// What a proper prefix of the square file is refused for: a cut line, but at the ends of lines, where one is missing.
 #[test]
 fn refuses_every_proper_prefix(rt: HostRuntime) -> Result<(), Fail> {
-    for length in 0..TORUS.len() {
-        let (ended, written) = run(rt.alloc(), &["check"], &TORUS[..length], moving(4096))?;
-        assert_eq!(rt; ended, 3);
-        assert_eq!(rt; written.as_slice(), NOT_BUILT);
-    }
-    Ok(())
-}
-
-/// No change of one byte to one of these gives another file that is built: a digit that becomes 0 breaks a sum, a
-/// turn, the field or the pairing, and anything else breaks the form.
-#[test]
-fn refuses_every_changed_byte(rt: HostRuntime) -> Result<(), Fail> {
     let alloc = rt.alloc();
-    for at in 0..TORUS.len() {
-        for byte in [b' ', b'0', b'-', b'\n', 128] {
-            let mut input = Vec::from_slice(alloc, &TORUS[..at])?;
-            input.push(byte)?;
-            input.extend_from_slice(&TORUS[at + 1..])?;
-            let (ended, written) = run(alloc, &["check"], input.as_slice(), moving(4096))?;
-            if TORUS[at] == byte {
-                assert_eq!(rt; ended, 0);
-                assert_eq!(rt; written.as_slice(), TORUS_COUNTS);
-            } else {
-                assert_eq!(rt; ended, 3, "byte {byte} at {at}");
-                assert_eq!(rt; written.as_slice(), NOT_BUILT);
-            }
+    let mut line = 1;
+    let mut at_start = true;
+    for (length, byte) in TORUS.iter().enumerate() {
+        let (cause, name) = if at_start { (1, "NoLine") } else { (2, "CutLine") };
+        let text = format!(in alloc; "fault file {cause} {line} {name}\n")?;
+        let (ended, written) = run(alloc, &["check"], &TORUS[..length], moving(4096))?;
+        assert_eq!(rt; ended, 3);
+        assert_eq!(rt; written.as_slice(), text.as_bytes());
+        at_start = *byte == b'\n';
+        if at_start {
+            line += 1;
         }
-    }
-    Ok(())
-}
-
-#[test]
-fn keeps_to_the_limits(rt: HostRuntime) -> Result<(), Fail> {
-    let alloc = rt.alloc();
-    let most = row_of_squares(alloc, 128, false)?;
-    let (ended, written) = run(alloc, &["check"], most.as_bytes(), moving(4096))?;
-    assert_eq!(rt; ended, 0);
-    assert_eq!(rt;
-        written.as_slice(),
-        b"valid\ntriangles 256\nedges 384\nend\n".as_slice()
-    );
-    let one_more = row_of_squares(alloc, 128, true)?;
-    let two_more = row_of_squares(alloc, 129, false)?;
-    for input in [one_more.as_bytes(), two_more.as_bytes()] {
-        let (ended, written) = run(alloc, &["check"], input, moving(4096))?;
-        assert_eq!(rt; ended, 3);
-        assert_eq!(rt; written.as_slice(), NOT_BUILT);
-    }
-    for length in [1_048_576, 1_048_577] {
-        let lines = vec![in alloc; b'\n'; length]?;
-        let (ended, written) = run(alloc, &["check"], lines.as_slice(), moving(65536))?;
-        assert_eq!(rt; ended, 3);
-        assert_eq!(rt; written.as_slice(), NOT_BUILT);
     }
     Ok(())
 }

@@ -1,8 +1,14 @@
-use Rattle.std.proofs.Common.{ap, ◌∙◌, Err}
-use Rattle.veech_cli.proofs.Outcomes.{refusal_speaks}
+use Rattle.std.proofs.Common.{inl, inr, ap, Err}
+use Rattle.veech_cli.proofs.Outcomes.{done_answers, refusal_answers}
 use Rattle.veech_cli.proofs.run.answer.Goals as goal
 
-pub returns-in-Err-clause-read_whole : goal.returns-in-Err-clause-read_whole
-returns-in-Err-clause-read_whole g c =
-    refusal_speaks c.in-Err.refusal c.status.result c.line.result.now c.deliver-in-Err.result (g.K.Sink.taken c.args.sink.now) (g.K.Sink.taken c.deliver-in-Err.new.sink) c.status.ensures c.deliver-in-Err.ensures.delivered
-    (λ e. c.settle.ensures.read_whole (c.in-Err.is ∙ ap Err e))
+pub returns-in-Ok-clause-expected : goal.returns-in-Ok-clause-expected
+returns-in-Ok-clause-expected g c = λ no_read no_write.
+    done_answers c.args.command (g.S.Source.left c.args.source.now) (g.K.Sink.taken c.args.sink.now) (g.K.Sink.taken c.deliver.new.sink) c.in-Ok.text c.deliver.result _ _
+    c.in-Ok.ensures.expected c.deliver.ensures.delivered (λ e. elim (c.deliver.ensures.fault e) [ | inl k ↦ absurd (cc) | inr r ↦ r ]) no_write
+
+pub returns-in-Err-clause-expected : goal.returns-in-Err-clause-expected
+returns-in-Err-clause-expected g c = λ no_read no_write.
+    refusal_answers _ c.args.command (g.S.Source.left c.args.source.now) (g.K.Sink.taken c.args.sink.now) (g.K.Sink.taken c.refuse.new.sink) c.in-Err.refusal c.refuse.result
+    c.refuse.ensures.delivered.0 _ _ _
+    c.in-Err.ensures.expected (λ e. c.in-Err.ensures.read_fault (ap Err e)) c.refuse.ensures.delivered.1 c.refuse.ensures.delivered.2 c.refuse.ensures.fault no_read no_write

@@ -1,0 +1,15 @@
+pub mod Orbits
+pub mod Swaps
+pub mod Counts
+pub mod OrbitCounts
+pub mod Parity
+pub mod Searches
+pub mod Numbers
+pub mod Rounds
+pub mod Directions
+pub mod Rising
+pub mod Totals
+pub mod Walking
+pub mod Visits
+pub mod Orders
+pub mod Uppers

@@ -1,0 +1,3 @@
+pub mod Cuttings
+pub mod Cuttable
+pub mod Steps

@@ -1,0 +1,105 @@
+//! Cutting polygons into triangles.
+
+ghost use Rattle.std.specs.Prelude.{◌≡◌, ℕ, ◌+◌, ◌*◌, ◌/◌, ◌%◌, ◌<◌, ◌≤◌, length, map, vec_len, IfOk};
+ghost use Rattle.quad_field.specs.FieldNumber.{IsFieldNumber};
+ghost use Rattle.surface_text.specs.declared.file.Polygon.{Polygon as PolygonValue};
+ghost use Rattle.gluing.specs.Gluings.{triangle_count};
+ghost use Rattle.ear_cut.specs.Cuttings.{IsEar, IsLeastEar, outer_sides, vectors_of};
+ghost use Rattle.ear_cut.specs.Cuttable.{IsCuttable};
+ghost use Rattle.ear_cut.specs.Steps.{seen, AreSmall, AreCuttable, IsEarCut, IsPolygonCut, ArePolygonsCut};
+
+use super::ear_search::{chord, least_ear, next_place, turned_back, with_chord};
+use super::side::{Edge, Source};
+use plane::Vec2;
+use quad_field::Field;
+use std::alloc::{AllocError, Global};
+use surface_text::Polygon;
+
+/// The sides of polygon p.
+fn sides_of(alloc: Global, p: u32, vectors: &[Vec2]) -> Result<Vec<Edge>, AllocError>
+    requires { length vectors.now ≤ 258 }
+    ensures { IfOk result (λ sides. seen sides.items ≡ outer_sides p 0 vectors.now) }
+{
+    let mut sides = Vec::with_capacity(alloc, vectors.len())?;
+    for (e, vec) in vectors.iter().enumerate() {
+        sides.push(Edge {
+            vec: *vec,
+            source: Source::Outer { p, e: e as u32 },
+        })?;
+    }
+    Ok(sides)
+}
+
+/// Cuts the least ear off: appends the sides of its triangle, and answers what is left of the sides.
+fn cut_ear(
+    alloc: Global,
+    f: &Field,
+    sides: &[Edge],
+    edges: &mut Vec<Edge>,
+) -> Result<Vec<Edge>, AllocError>
+    requires field { f.now ≤ 1000 }
+    requires long { 4 ≤ length sides.now }
+    requires small { AreSmall (vectors_of (seen sides.now)) }
+    requires some { (i : ℕ) × IsEar f.now (vectors_of (seen sides.now)) i }
+    requires few { vec_len edges.old ≤ 768 }
+    ensures { IfOk result (λ left. IsEarCut f.now (vec_len edges.old / 3) (seen sides.now) (seen edges.old.items) (seen edges.new.items) (seen left.items)) }
+{
+    let i = least_ear(alloc, f, sides)?;
+    let t = (edges.len() / 3) as u32;
+    let vec = chord(f, sides, i);
+    edges.push(sides[i])?;
+    edges.push(sides[next_place(i, sides.len())])?;
+    edges.push(Edge {
+        vec: turned_back(f, &vec),
+        source: Source::Back { t },
+    })?;
+    let new = Edge {
+        vec,
+        source: Source::Chord { t },
+    };
+    with_chord(alloc, sides, i, new)
+}
+
+/// Cuts a polygon, and appends the sides of its triangles.
+fn cut_polygon(
+    alloc: Global,
+    f: &Field,
+    polygon: Vec<Edge>,
+    edges: &mut Vec<Edge>,
+) -> Result<(), AllocError>
+    requires field { IsFieldNumber f.now }
+    requires long { 3 ≤ vec_len polygon }
+    requires small { AreSmall (vectors_of (seen polygon.items)) }
+    requires cuttable { IsCuttable f.now (vectors_of (seen polygon.items)) }
+    requires whole { vec_len edges.old % 3 ≡ 0 }
+    requires few { vec_len edges.old + 3 * vec_len polygon ≤ 774 }
+    ensures { IfOk result (λ _. IsPolygonCut f.now (vec_len edges.old / 3) (seen polygon.items) (seen edges.old.items) (seen edges.new.items)) }
+{
+    let mut sides = polygon;
+    while sides.len() > 3 {
+        sides = cut_ear(alloc, f, &sides, edges)?;
+    }
+    edges.push(sides[0])?;
+    edges.push(sides[1])?;
+    edges.push(sides[2])?;
+    Ok(())
+}
+
+/// The sides of the triangles that polygons are cut into, one polygon after another.
+pub(crate) fn cut_polygons(
+    alloc: Global,
+    f: &Field,
+    polygons: &[Polygon],
+) -> Result<Vec<Edge>, AllocError>
+    requires field { IsFieldNumber f.now }
+    requires cuttable { AreCuttable f.now (map (λ (polygon : PolygonValue). polygon.sides.items) polygons.now) }
+    requires few { triangle_count (map (λ (polygon : PolygonValue). polygon.sides.items) polygons.now) ≤ 256 }
+    ensures { IfOk result (λ edges. ArePolygonsCut f.now (map (λ (polygon : PolygonValue). polygon.sides.items) polygons.now) (seen edges.items)) }
+{
+    let mut edges = Vec::new(alloc);
+    for (p, polygon) in polygons.iter().enumerate() {
+        let sides = sides_of(alloc, p as u32, &polygon.sides)?;
+        cut_polygon(alloc, f, sides, &mut edges)?;
+    }
+    Ok(edges)
+}
