@@ -124,8 +124,8 @@ fn row_of_squares(alloc: Global, n: u32, lone: bool) -> Result<String, AllocErro
 
 /// An L of squares: so many in a row, and above the first of them so many in a column.
 fn l_of_squares(alloc: Global, row: u32, column: u32) -> Result<String, AllocError>
-    requires { row ≤ 1000 }
-    requires { column ≤ 1000 }
+    requires row { row ≤ 1000 }
+    requires column { column ≤ 1000 }
 {
     let mut text = String::from_str(alloc, "flat 1\nfield 2\n")?;
     for _ in 0..row + column {
