@@ -1,9 +1,9 @@
 -- How many numbers below a bound pass a test, and how long a list of them is.
-use Rattle.std.proofs.Common.{◌≡◌, ℕ, zero, suc, ◌+◌, ◌<◌, ◌≤◌, Bool, true, false, cond, eqb, List, [], ◌∷◌, length, get_or, subst, sym, ap, ◌∙◌, refl, arith}
+use Rattle.std.proofs.Common.{◌≡◌, ℕ, zero, suc, ◌<◌, Bool, true, false, cond, eqb, List, [], ◌∷◌, length, get_or, sym, ap, ◌∙◌, refl, arith}
 use Rattle.std.specs.Prelude.{◌⊎◌, Contains}
 use mathlib.Core.Logic.{inl, inr}
 use Rattle.std.proofs.lemmas.Bool.{cases_eq, eq-eqb}
-use Rattle.cone_points.specs.Vertices.{IsDistinct, IsListOf, IsNumberOf}
+use Rattle.cone_points.specs.Vertices.{IsDistinct, IsNumberOf}
 use Rattle.cone_points.proofs.Searches.{ne-eqb}
 
 -- true or false
@@ -27,15 +27,15 @@ count_same test other (suc n) agree =
 pub count_one_more : (test other : ℕ → Bool) (n x : ℕ) → x < n → test x ≡ true → other x ≡ false → ((k : ℕ) → k < n → ¬ (k ≡ x) → test k ≡ other k) → count test n ≡ suc (count other n)
 count_one_more test other zero x inside passes fails agree = absurd (omega (arith, inside))
 count_one_more test other (suc n) x inside passes fails agree = elim (cases_eq n x) [
-    | inl e ↦
-        ap (λ b. cond b (suc (count test n)) (count test n)) (ap test e ∙ passes)
-        ∙ ap suc (count_same test other n (λ k h. agree k (omega (arith, h)) (λ z. omega (arith, z, h, e)))
-        ∙ sym (ap (λ b. cond b (suc (count other n)) (count other n)) (ap other e ∙ fails)))
-    | inr ne ↦
-        let rest : count test n ≡ suc (count other n) =
-            count_one_more test other n x (omega (arith, inside, ne)) passes fails (λ k h. agree k (omega (arith, h))) in
-        ap (λ b. cond b (suc (count test n)) (count test n)) (agree n (omega arith) ne) ∙ ap (λ m. cond (other n) (suc m) m) rest ∙ out (other n) (count other n)
-  ]
+  | inl e ↦
+      ap (λ b. cond b (suc (count test n)) (count test n)) (ap test e ∙ passes)
+      ∙ ap suc (count_same test other n (λ k h. agree k (omega (arith, h)) (λ z. omega (arith, z, h, e)))
+      ∙ sym (ap (λ b. cond b (suc (count other n)) (count other n)) (ap other e ∙ fails)))
+  | inr ne ↦
+      let rest : count test n ≡ suc (count other n) =
+      count_one_more test other n x (omega (arith, inside, ne)) passes fails (λ k h. agree k (omega (arith, h))) in
+      ap (λ b. cond b (suc (count test n)) (count test n)) (agree n (omega arith) ne) ∙ ap (λ m. cond (other n) (suc m) m) rest ∙ out (other n) (count other n)
+]
   where
     out : (b : Bool) (m : ℕ) → cond b (suc (suc m)) (suc m) ≡ suc (cond b (suc m) m)
     out true m = refl
@@ -75,19 +75,19 @@ length_counted (x ∷ list) n distinct below =
 held : (list : List ℕ) (k : ℕ) → holds list k ≡ true → Contains list k
 held [] k h = absurd (cc)
 held (x ∷ list) k h = elim (cases_eq k x) [
-    | inl e ↦ (0, omega arith, sym e)
-    | inr ne ↦
-        let w = held list k (sym (ap (λ b. cond b true (holds list k)) (ne-eqb k x ne)) ∙ h) in
-        (suc w.0, omega (arith, w.1), w.2)
-  ]
+  | inl e ↦ (0, omega arith, sym e)
+  | inr ne ↦
+      let w = held list k (sym (ap (λ b. cond b true (holds list k)) (ne-eqb k x ne)) ∙ h) in
+      (suc w.0, omega (arith, w.1), w.2)
+]
 
 holds_it : (list : List ℕ) (k i : ℕ) → i < length list → get_or list i k ≡ k → holds list k ≡ true
 holds_it [] k i inside e = absurd (omega (arith, inside))
 holds_it (x ∷ list) k zero inside e = ap (λ b. cond b true (holds list k)) (eq-eqb k x (sym e))
 holds_it (x ∷ list) k (suc i) inside e = elim (either (eqb k x)) [
-    | inl same ↦ ap (λ b. cond b true (holds list k)) same
-    | inr apart ↦ ap (λ b. cond b true (holds list k)) apart ∙ holds_it list k i (omega (arith, inside)) e
-  ]
+  | inl same ↦ ap (λ b. cond b true (holds list k)) same
+  | inr apart ↦ ap (λ b. cond b true (holds list k)) apart ∙ holds_it list k i (omega (arith, inside)) e
+]
 
 -- a value of a list, whatever is read past its end
 within : (list : List ℕ) (i a b : ℕ) → i < length list → get_or list i a ≡ get_or list i b

@@ -1,8 +1,8 @@
 -- Vectors that turn to the left, in the upper and the lower half of the plane.
-use Rattle.std.proofs.Common.{◌≡◌, ℕ, zero, suc, List, [], ◌∷◌, subst, sym, ap, ◌∙◌, refl}
+use Rattle.std.proofs.Common.{◌≡◌, ℕ, zero, suc, [], ◌∷◌, subst, sym, ap, ◌∙◌}
 use Rattle.std.specs.Prelude.{pos, ◌⊎◌}
 use mathlib.Core.Logic.{inl, inr}
-use Rattle.rings.specs.Ring.{Ops, IsRing, Expr, var, expr}
+use Rattle.rings.specs.Ring.{Ops, IsRing, var, expr}
 use Rattle.rings.specs.Order.{IsOrdered, Sign, is_zero, is_positive, is_negative, IsNotNegative}
 use Rattle.rings.specs.Forms.{determinant}
 use Rattle.rings.proofs.Solver.{identity}

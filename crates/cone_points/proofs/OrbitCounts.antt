@@ -1,11 +1,11 @@
 -- How many orbits a permutation has, and how many it has after an exchange.
-use Rattle.std.proofs.Common.{◌≡◌, ℕ, zero, suc, ◌+◌, ◌<◌, ◌≤◌, Bool, true, false, eqb, subst, sym, ap, ◌∙◌, refl, arith}
+use Rattle.std.proofs.Common.{◌≡◌, ℕ, zero, suc, ◌<◌, ◌≤◌, Bool, true, false, eqb, subst, sym, ap, ◌∙◌, refl, arith}
 use Rattle.std.specs.Prelude.{◌⊎◌, ◌↔◌}
 use mathlib.Core.Logic.{inl, inr}
-use Rattle.std.proofs.lemmas.Bool.{cases_eq, cases_lt, eq-eqb, eqb-true, false_from_ne_true}
-use Rattle.cone_points.proofs.Orbits.{IsPermutation, often, often_below, Reaches, IsLeast, Leader, leader, reaches_sym, reaches_decided, reaches_trans}
+use Rattle.std.proofs.lemmas.Bool.{cases_lt, eq-eqb, eqb-true, false_from_ne_true}
+use Rattle.cone_points.proofs.Orbits.{IsPermutation, often, often_below, Reaches, IsLeast, leader, reaches_sym, reaches_decided}
 use Rattle.cone_points.proofs.Swaps.{AreSwapped, swapped_turned, swapped_back, A, B, one_less, lead_is_least, leads_differ, split}
-use Rattle.cone_points.proofs.Counts.{count, count_same, count_one_more, either}
+use Rattle.cone_points.proofs.Counts.{count, count_same, count_one_more}
 
 -- tests that say yes together
 pub same_test : (a b : Bool) → (a ≡ true → b ≡ true) → (b ≡ true → a ≡ true) → a ≡ b
@@ -86,6 +86,6 @@ fewer n f g perm other a b ha hb swapped apart =
 pub one_apart : (n : ℕ) (f g : ℕ → ℕ) (perm : IsPermutation n f) (other : IsPermutation n g) (a b : ℕ) → a < n → b < n → ¬ (a ≡ b) → AreSwapped n f g a b
     → (orbits n f perm ≡ suc (orbits n g other)) ⊎ (orbits n g other ≡ suc (orbits n f perm))
 one_apart n f g perm other a b ha hb ne swapped = elim (reaches_decided n f perm a b ha) [
-    | inl reach ↦ inr (fewer n g f other perm a b ha hb (swapped_back n f g a b ne swapped) (split n f g perm a b ha ne swapped reach))
-    | inr not ↦ inl (fewer n f g perm other a b ha hb swapped not)
-  ]
+  | inl reach ↦ inr (fewer n g f other perm a b ha hb (swapped_back n f g a b ne swapped) (split n f g perm a b ha ne swapped reach))
+  | inr not ↦ inl (fewer n f g perm other a b ha hb swapped not)
+]

@@ -1,5 +1,5 @@
 -- The orbits of a permutation of the numbers below n.
-use Rattle.std.proofs.Common.{◌≡◌, ℕ, zero, suc, ◌+◌, ◌*◌, ◌-◌, ◌<◌, ◌≤◌, subst, sym, ap, ◌∙◌, refl, arith}
+use Rattle.std.proofs.Common.{◌≡◌, ℕ, zero, suc, ◌+◌, ◌*◌, ◌-◌, ◌<◌, ◌≤◌, sym, ap, ◌∙◌, refl, arith}
 use Rattle.std.specs.Prelude.{◌⊎◌}
 use mathlib.Core.Logic.{inl, inr}
 use Rattle.std.proofs.lemmas.Bool.{cases_eq, cases_lt}
@@ -53,10 +53,13 @@ module _ (n : ℕ) (f : ℕ → ℕ) (perm : IsPermutation n f) where
   some_return : (x : ℕ) → x < n → (p : ℕ) × (1 ≤ p) × (p ≤ n) × (often f p x ≡ x)
   some_return x h =
       let w : Repeats n (λ i. often f i x) = repeats n (λ i. often f i x) (λ i _. often_below i x h) in
-      let gap : w.0 + (w.1 - w.0) ≡ w.1 = omega (arith, w.2) in
-      (w.1 - w.0, omega (arith, w.2), omega (arith, w.2, w.3),
-      often_injective w.0 (often f (w.1 - w.0) x) x (often_below (w.1 - w.0) x h) h
-      (sym (often_sum f w.0 (w.1 - w.0) x) ∙ ap (λ k. often f k x) gap ∙ sym w.4))
+      let gap : w.0 + (w.1 - w.0) ≡ w.1 = omega (arith, w.2) in (
+        w.1 - w.0,
+        omega (arith, w.2),
+        omega (arith, w.2, w.3),
+        often_injective w.0 (often f (w.1 - w.0) x) x (often_below (w.1 - w.0) x h) h
+            (sym (often_sum f w.0 (w.1 - w.0) x) ∙ ap (λ k. often f k x) gap ∙ sym w.4),
+      )
 
   pub period : (x : ℕ) → x < n → Period x
   period x h = go (some_return x h) (first_below (λ k. often f (suc k) x ≡ x) (λ k. cases_eq (often f (suc k) x) x) n)
@@ -83,9 +86,9 @@ module _ (n : ℕ) (f : ℕ → ℕ) (perm : IsPermutation n f) where
         where
           next : (k : ℕ) × (k < p) × (often f k x ≡ often f m x) → (k : ℕ) × (k < p) × (often f k x ≡ f (often f m x))
           next w = elim (cases_eq (suc w.0) p) [
-              | inl k ↦ (0, omega (arith, one), sym e ∙ ap (λ i. often f i x) (sym k) ∙ ap f w.2)
-              | inr nk ↦ (suc w.0, omega (arith, w.1, nk), ap f w.2)
-            ]
+            | inl k ↦ (0, omega (arith, one), sym e ∙ ap (λ i. often f i x) (sym k) ∙ ap f w.2)
+            | inr nk ↦ (suc w.0, omega (arith, w.1, nk), ap f w.2)
+          ]
 
       go : (m : ℕ) → (k : ℕ) × (k < (period x h).0) × (often f k x ≡ often f m x)
       go m = back (period x h).0 (period x h).3 (period x h).1 m
@@ -124,9 +127,9 @@ module _ (n : ℕ) (f : ℕ → ℕ) (perm : IsPermutation n f) where
   -- it is decided whether y is reached from x
   pub reaches_decided : (x y : ℕ) → x < n → Reaches f x y ⊎ ¬ (Reaches f x y)
   reaches_decided x y h = elim (first_below (λ m. often f m x ≡ y) (λ m. cases_eq (often f m x) y) n) [
-      | inl w ↦ inl (w.0, w.2)
-      | inr none ↦ inr (λ r. let w = reached_soon x y h r in none w.0 w.1 w.2)
-    ]
+    | inl w ↦ inl (w.0, w.2)
+    | inr none ↦ inr (λ r. let w = reached_soon x y h r in none w.0 w.1 w.2)
+  ]
 
   -- the least number of the orbit of x
   pub record Leader (x : ℕ) : Type 0 where
@@ -145,5 +148,5 @@ module _ (n : ℕ) (f : ℕ → ℕ) (perm : IsPermutation n f) where
       first_below' m = first_below (Reaches f x) decide m
 
       go : First (Reaches f x) n ⊎ ((i : ℕ) → i < n → ¬ (Reaches f x i)) → Leader x
-      go (inl w) = record { v = w.0; below = w.1; reached = w.2; least = λ k r. elim (cases_lt k w.0) [ | inl less ↦ absurd (w.3 k less r) | inr not ↦ not ] }
+      go (inl w) = record { v = w.0; below = w.1; reached = w.2; least = λ k r. elim (cases_lt k w.0) [ inl less ↦ absurd (w.3 k less r) | inr not ↦ not ] }
       go (inr none) = absurd (none x h (0, refl))

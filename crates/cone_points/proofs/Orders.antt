@@ -1,6 +1,6 @@
 -- The turns of the vertices in another order.
-use Rattle.std.proofs.Common.{◌≡◌, ℕ, ◌+◌, ◌-◌, ◌*◌, ◌/◌, ◌<◌, ◌≤◌, Bool, List, [], ◌∷◌, length, get_or, subst, sym, ap, ◌∙◌, refl, arith}
-use Rattle.std.specs.Prelude.{◌⊎◌, ◌↔◌, Contains}
+use Rattle.std.proofs.Common.{◌≡◌, ℕ, ◌+◌, ◌-◌, ◌*◌, ◌/◌, ◌<◌, ◌≤◌, Bool, List, [], ◌∷◌, length, get_or, sym, ap, ◌∙◌, refl, arith}
+use Rattle.std.specs.Prelude.{◌⊎◌}
 use Rattle.std.specs.List.{swap, sum, sum_by}
 use Rattle.std.specs.List.Sorted.{IsPermutation, IsSortedByKey}
 use Rattle.std.specs.Ordering.{nat_cmp}
@@ -11,7 +11,7 @@ use Rattle.std.proofs.lemmas.List.Edits.{Swapped, swapped_from_swap}
 use Rattle.std.proofs.lemmas.List.Sorted.{IsPermutation-swap, IsPermutation-sym, IsPermutation-keeps, Contains-permutation, length_permutation, sum_by-IsPermutation, IsNonDecreasingBy-from_sort}
 use Rattle.std.proofs.lemmas.List.Sums.{sum_by-cons}
 use Rattle.tri_core.specs.declared.half.Half.{Half}
-use Rattle.cone_points.specs.Vertices.{IsVertex, IsTurns, IsDistinct, IsListOf, IsNumberOf}
+use Rattle.cone_points.specs.Vertices.{IsVertex, IsTurns, IsDistinct, IsNumberOf}
 use Rattle.tri_core.specs.Triangulation.{IsTriangulation}
 use Rattle.quad_field.specs.FieldNumber.{IsFieldNumber}
 use Rattle.cone_points.specs.Angles.{AreTurns, IsGenus, sum_of}

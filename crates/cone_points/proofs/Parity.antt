@@ -16,9 +16,9 @@ use Rattle.tri_core.specs.Triangulation.{IsTriangle, IsTriangulation}
 use Rattle.cone_points.specs.Vertices.{turned, turned_often, IsVertex, IsNumberOf}
 use Rattle.tri_core.specs.Flips.{IsEdge}
 use Rattle.cone_points.proofs.Searches.{ne-eqb}
-use Rattle.cone_points.proofs.Orbits.{IsPermutation, often, often_below, Reaches, IsLeast}
+use Rattle.cone_points.proofs.Orbits.{IsPermutation, often, often_below, IsLeast}
 use Rattle.cone_points.proofs.Swaps.{AreSwapped}
-use Rattle.cone_points.proofs.Counts.{count, count_same, Tells, number_counted}
+use Rattle.cone_points.proofs.Counts.{count, count_same, number_counted}
 use Rattle.cone_points.proofs.OrbitCounts.{least_test, orbits, least_yes, least_no, orbits_same, one_apart, same_test}
 
 abbrev pub Even : ℕ → Type 0
@@ -79,7 +79,7 @@ module _ (halves : List Half) (whole : length halves % 3 ≡ 0)
     high : j ≤ x → j ≤ t x → Place j x
 
   place : (j x : ℕ) → Place j x
-  place j x = elim (cases_lt x j) [ | inl h ↦ low h | inr h ↦ elim (cases_lt (t x) j) [ | inl k ↦ twin_low k | inr k ↦ high h k ] ]
+  place j x = elim (cases_lt x j) [ inl h ↦ low h | inr h ↦ elim (cases_lt (t x) j) [ inl k ↦ twin_low k | inr k ↦ high h k ] ]
 
   part_below : (j x : ℕ) → x < n → part j x < n
   part_below j x inside = go (place j x)
@@ -115,23 +115,23 @@ module _ (halves : List Half) (whole : length halves % 3 ≡ 0)
       -- a half-edge below j, or with its twin there, is neither j nor the twin of j
       go : Place j p → ((part j p ≡ j) → part (suc j) p ≡ t j) × ((part j p ≡ t j) → part (suc j) p ≡ j) × (¬ (part j p ≡ j) → ¬ (part j p ≡ t j) → part (suc j) p ≡ part j p)
       go (low h) = (
-          λ e. absurd (omega (arith, h, edge, ap t (sym (part_first j p h) ∙ e), t_back p pn)),
-          λ e. absurd (omega (arith, h, ap t (sym (part_first j p h) ∙ e), t_back p pn, t_back j jn)),
-          λ a b. part_first (suc j) p (omega (arith, h)) ∙ sym (part_first j p h),
-        )
+        λ e. absurd (omega (arith, h, edge, ap t (sym (part_first j p h) ∙ e), t_back p pn)),
+        λ e. absurd (omega (arith, h, ap t (sym (part_first j p h) ∙ e), t_back p pn, t_back j jn)),
+        λ a b. part_first (suc j) p (omega (arith, h)) ∙ sym (part_first j p h),
+      )
       go (twin_low h) = (
-          λ e. absurd (omega (arith, h, part_second j p h, e)),
-          λ e. absurd (omega (arith, h, edge, part_second j p h, e)),
-          λ a b. part_second (suc j) p (omega (arith, h)) ∙ sym (part_second j p h),
-        )
+        λ e. absurd (omega (arith, h, part_second j p h, e)),
+        λ e. absurd (omega (arith, h, edge, part_second j p h, e)),
+        λ a b. part_second (suc j) p (omega (arith, h)) ∙ sym (part_second j p h),
+      )
       go (high h k) = (
-          λ e. let q : p ≡ j = sym (part_other j p h k) ∙ e in part_first (suc j) p (omega (arith, q)) ∙ ap t q,
-          λ e. let q : t p ≡ j = ap t (sym (part_other j p h k) ∙ e) ∙ t_back j jn in part_second (suc j) p (omega (arith, q)) ∙ q,
-          λ a b.
+        λ e. let q : p ≡ j = sym (part_other j p h k) ∙ e in part_first (suc j) p (omega (arith, q)) ∙ ap t q,
+        λ e. let q : t p ≡ j = ap t (sym (part_other j p h k) ∙ e) ∙ t_back j jn in part_second (suc j) p (omega (arith, q)) ∙ q,
+        λ a b.
             let p_other : ¬ (p ≡ j) = λ q. a (part_other j p h k ∙ q) in
             let t_other : ¬ (t p ≡ j) = λ q. b (part_other j p h k ∙ sym (t_back p pn) ∙ ap t q) in
             part_other (suc j) p (omega (arith, h, p_other)) (omega (arith, k, t_other)) ∙ sym (part_other j p h k),
-        )
+      )
 
   -- no edge: nothing more is exchanged
   part_stays : (j p : ℕ) → j < n → p < n → t j < j → part (suc j) p ≡ part j p
@@ -239,17 +239,17 @@ module _ (halves : List Half) (whole : length halves % 3 ≡ 0)
 
   vertices_counted : (V : ℕ) → IsNumberOf (IsVertex halves) V → V ≡ orbits n (step n) (step_permutes n)
   vertices_counted V number = number_counted (IsVertex halves) (least_test n (step n) (step_permutes n)) n V (record {
-        below = λ k v. v.0;
-        yes = λ k v. least_yes n (step n) (step_permutes n) k v.0 (λ y r. v.1 y (r.0, sym (turned_is r.0 k v.0) ∙ r.1));
-        no = λ k h e. (h, λ y r. least_no n (step n) (step_permutes n) k h e y (r.0, turned_is r.0 k h ∙ r.1));
-      }) number
+    below = λ k v. v.0;
+    yes = λ k v. least_yes n (step n) (step_permutes n) k v.0 (λ y r. v.1 y (r.0, sym (turned_is r.0 k v.0) ∙ r.1));
+    no = λ k h e. (h, λ y r. least_no n (step n) (step_permutes n) k h e y (r.0, turned_is r.0 k h ∙ r.1));
+  }) number
 
   edges_counted : (E : ℕ) → IsNumberOf (IsEdge halves) E → E ≡ count edge_test n
   edges_counted E number = number_counted (IsEdge halves) edge_test n E (record {
-        below = λ k e. e.0;
-        yes = λ k e. lt-ltb k (t k) e.1;
-        no = λ k h e. (h, ltb-true k (t k) e);
-      }) number
+    below = λ k e. e.0;
+    yes = λ k e. lt-ltb k (t k) e.1;
+    no = λ k h e. (h, ltb-true k (t k) e);
+  }) number
 
   triangles_counted : (F : ℕ) → IsNumberOf (IsTriangle halves) F → F ≡ orbits n (step 0) (step_permutes 0)
   triangles_counted F number =
@@ -311,8 +311,10 @@ module _ (d : ℕ) where
 
       first : Quad × Quad
       first = vector_at halves (3 * (h / 3))
+
       second : Quad × Quad
       second = vector_at halves (3 * (h / 3) + 1)
+
       third : Quad × Quad
       third = vector_at halves (3 * (h / 3) + 2)
 

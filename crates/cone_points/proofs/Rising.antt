@@ -1,23 +1,22 @@
 -- Which half-edges rise, and that one does at each vertex.
-use Rattle.std.proofs.Common.{◌≡◌, ℕ, zero, suc, ◌+◌, ◌*◌, ◌/◌, ◌%◌, ◌<◌, Bool, true, false, not, ◌&&◌, eqb, cond, List, length, get_or, subst, sym, ap, ◌∙◌, refl, arith}
+use Rattle.std.proofs.Common.{◌≡◌, ℕ, zero, suc, ◌+◌, ◌*◌, ◌/◌, ◌%◌, ◌<◌, Bool, true, false, not, List, length, get_or, subst, sym, ap, ◌∙◌, refl, arith}
 use Rattle.std.specs.Prelude.{◌⊎◌, ◌↔◌, IsTrue}
 use mathlib.Core.Logic.{inl, inr}
-use Rattle.std.proofs.lemmas.Bool.{cases_Bool, and_parts, and_from, not_from_false, not_from_true}
+use Rattle.std.proofs.lemmas.Bool.{cases_Bool, and_parts, and_from, not_from_false}
 use Rattle.quad_field.specs.Quads.{quad_ops, IsPositive}
 use Rattle.quad_field.specs.FieldNumber.{IsFieldNumber}
-use Rattle.quad_field.specs.declared.quad.Quad.{Quad}
 use Rattle.quad_field.proofs.KIntegers.{quad_ring, quad_order}
 use Rattle.rings.specs.Ring.{IsRing}
 use Rattle.rings.specs.Order.{IsOrdered}
-use Rattle.plane.specs.Vectors.{Vector, det, opposite_vector}
+use Rattle.plane.specs.Vectors.{det, opposite_vector}
 use Rattle.tri_core.specs.declared.half.Half.{Half}
 use Rattle.tri_core.specs.HalfEdges.{vector_at, twin_at, previous_of}
 use Rattle.tri_core.specs.Triangulation.{IsTriangulation, IsTriangle}
 use Rattle.cone_points.specs.Vertices.{turned, turned_often, IsUpper, Rises}
-use Rattle.cone_points.specs.Walks.{TellsUpper, rises_by, number_below}
+use Rattle.cone_points.specs.Walks.{TellsUpper, rises_by}
 use Rattle.cone_points.proofs.Directions.{no_upper_round, no_lower_round, lower_of, upper_once, upper_decided, not_all_upper, not_all_lower, first_corner, second_corner, third_corner}
 use Rattle.cone_points.proofs.Rounds.{often_sum, triangles, previous_inside, turned_inside, often_inside, returns_to}
-use Rattle.cone_points.proofs.Numbers.{bit, clash}
+use Rattle.cone_points.proofs.Numbers.{clash}
 
 -- what isn't true is false
 pub false_of : (b : Bool) → ¬ (b ≡ true) → b ≡ false

@@ -1,10 +1,10 @@
 -- A permutation followed by an exchange of two numbers has one orbit more or one less.
-use Rattle.std.proofs.Common.{◌≡◌, ℕ, zero, suc, ◌+◌, ◌-◌, ◌<◌, ◌≤◌, subst, sym, ap, ◌∙◌, refl, arith}
+use Rattle.std.proofs.Common.{◌≡◌, ℕ, zero, suc, ◌-◌, ◌<◌, ◌≤◌, subst, sym, ap, ◌∙◌, refl, arith}
 use Rattle.std.specs.Prelude.{◌⊎◌, ◌↔◌}
 use mathlib.Core.Logic.{inl, inr}
-use Rattle.std.proofs.lemmas.Bool.{cases_eq, cases_lt}
+use Rattle.std.proofs.lemmas.Bool.{cases_eq}
 use Rattle.cone_points.proofs.Searches.{first_below}
-use Rattle.cone_points.proofs.Orbits.{IsPermutation, often, Reaches, IsLeast, reaches_trans, often_below, often_sum, reaches_sym, reaches_decided, Period, period, Leader, leader}
+use Rattle.cone_points.proofs.Orbits.{IsPermutation, often, Reaches, IsLeast, reaches_trans, often_below, often_sum, reaches_sym, Period, period, Leader, leader}
 
 -- g is f, and then a and b exchanged
 pub record AreSwapped (n : ℕ) (f g : ℕ → ℕ) (a b : ℕ) : Type 0 where
@@ -22,30 +22,30 @@ swapped_back n f g a b apart h = record { first = first; second = second; others
   where
     first : (x : ℕ) → x < n → g x ≡ a → f x ≡ b
     first x inside e = elim (cases_eq (f x) b) [
-        | inl k ↦ k
-        | inr nb ↦ elim (cases_eq (f x) a) [
-            | inl k ↦ absurd (apart (sym e ∙ h.first x inside k))
-            | inr na ↦ absurd (na (sym (h.others x inside na nb) ∙ e))
-          ]
+      | inl k ↦ k
+      | inr nb ↦ elim (cases_eq (f x) a) [
+        | inl k ↦ absurd (apart (sym e ∙ h.first x inside k))
+        | inr na ↦ absurd (na (sym (h.others x inside na nb) ∙ e))
       ]
+    ]
 
     second : (x : ℕ) → x < n → g x ≡ b → f x ≡ a
     second x inside e = elim (cases_eq (f x) a) [
-        | inl k ↦ k
-        | inr na ↦ elim (cases_eq (f x) b) [
-            | inl k ↦ absurd (apart (sym (h.second x inside k) ∙ e))
-            | inr nb ↦ absurd (nb (sym (h.others x inside na nb) ∙ e))
-          ]
+      | inl k ↦ k
+      | inr na ↦ elim (cases_eq (f x) b) [
+        | inl k ↦ absurd (apart (sym (h.second x inside k) ∙ e))
+        | inr nb ↦ absurd (nb (sym (h.others x inside na nb) ∙ e))
       ]
+    ]
 
     others : (x : ℕ) → x < n → ¬ (g x ≡ a) → ¬ (g x ≡ b) → f x ≡ g x
     others x inside na nb = elim (cases_eq (f x) a) [
-        | inl k ↦ absurd (nb (h.first x inside k))
-        | inr na' ↦ elim (cases_eq (f x) b) [
-            | inl k ↦ absurd (na (h.second x inside k))
-            | inr nb' ↦ sym (h.others x inside na' nb')
-          ]
+      | inl k ↦ absurd (nb (h.first x inside k))
+      | inr na' ↦ elim (cases_eq (f x) b) [
+        | inl k ↦ absurd (na (h.second x inside k))
+        | inr nb' ↦ sym (h.others x inside na' nb')
       ]
+    ]
 
 -- ---- a and b in different orbits of f
 module _ (n : ℕ) (f g : ℕ → ℕ) (perm : IsPermutation n f) (other : IsPermutation n g) (a b : ℕ) (a_below : a < n) (b_below : b < n) (swapped : AreSwapped n f g a b)
@@ -76,12 +76,12 @@ module _ (n : ℕ) (f g : ℕ → ℕ) (perm : IsPermutation n f) (other : IsPer
   -- a step of f is made by g
   step : (x : ℕ) → x < n → Reaches g x (f x)
   step x inside = elim (cases_eq (f x) a) [
-      | inl e ↦ subst (Reaches g x) (sym e) (reaches_trans g x b a (1, swapped.first x inside e) b_to_a)
-      | inr na ↦ elim (cases_eq (f x) b) [
-          | inl e ↦ subst (Reaches g x) (sym e) (reaches_trans g x a b (1, swapped.second x inside e) a_to_b)
-          | inr nb ↦ (1, swapped.others x inside na nb)
-        ]
+    | inl e ↦ subst (Reaches g x) (sym e) (reaches_trans g x b a (1, swapped.first x inside e) b_to_a)
+    | inr na ↦ elim (cases_eq (f x) b) [
+      | inl e ↦ subst (Reaches g x) (sym e) (reaches_trans g x a b (1, swapped.second x inside e) a_to_b)
+      | inr nb ↦ (1, swapped.others x inside na nb)
     ]
+  ]
 
   -- what f reaches, g reaches
   pub reached_too : (x y : ℕ) → x < n → Reaches f x y → Reaches g x y
@@ -94,6 +94,7 @@ module _ (n : ℕ) (f g : ℕ → ℕ) (perm : IsPermutation n f) (other : IsPer
   -- the least numbers of both orbits
   abbrev pub A : Leader n f perm a
   A = leader n f perm a a_below
+
   abbrev pub B : Leader n f perm b
   B = leader n f perm b b_below
 
@@ -148,9 +149,9 @@ module _ (n : ℕ) (f g : ℕ → ℕ) (perm : IsPermutation n f) (other : IsPer
 
       from : IsLeast f x × ¬ (x ≡ B.v) → IsLeast g x
       from h y r = elim (reached_within x y inside r) [
-          | inl s ↦ h.0 y s
-          | inr s ↦ lower h.0 h.1 s.0 y s.1 (subst (λ k. k < n) r.1 (often_below n g other r.0 x inside))
-        ]
+        | inl s ↦ h.0 y s
+        | inr s ↦ lower h.0 h.1 s.0 y s.1 (subst (λ k. k < n) r.1 (often_below n g other r.0 x inside))
+      ]
 
   -- the least number of b's orbit is one of f's
   pub lead_is_least : IsLeast f B.v
@@ -167,9 +168,9 @@ Steps f a b = (k : ℕ) × (often f k a ≡ b) × ((i : ℕ) → i < k → ¬ (o
 
 least_steps : (f : ℕ → ℕ) (a b : ℕ) → Reaches f a b → Steps f a b
 least_steps f a b reach = elim (first_below (λ k. often f k a ≡ b) (λ k. cases_eq (often f k a) b) (suc reach.0)) [
-    | inl w ↦ (w.0, w.2, w.3)
-    | inr none ↦ absurd (none reach.0 (omega arith) reach.1)
-  ]
+  | inl w ↦ (w.0, w.2, w.3)
+  | inr none ↦ absurd (none reach.0 (omega arith) reach.1)
+]
 
 -- then they are in different orbits of g
 pub split : (n : ℕ) (f g : ℕ → ℕ) → IsPermutation n f → (a b : ℕ) → a < n → ¬ (a ≡ b) → AreSwapped n f g a b → Reaches f a b → ¬ (Reaches g a b)

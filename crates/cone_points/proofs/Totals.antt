@@ -1,15 +1,15 @@
 -- As many half-edges rise as there are edges more than triangles, and the genus.
-use Rattle.std.proofs.Common.{◌≡◌, ℕ, zero, suc, ◌+◌, ◌-◌, ◌*◌, ◌/◌, ◌%◌, ◌<◌, ◌≤◌, Bool, true, false, not, ◌&&◌, List, length, get_or, subst, sym, ap, ◌∙◌, refl, arith}
-use Rattle.std.specs.Prelude.{◌⊎◌, ◌↔◌, IsTrue}
+use Rattle.std.proofs.Common.{◌≡◌, ℕ, zero, suc, ◌+◌, ◌-◌, ◌*◌, ◌/◌, ◌<◌, ◌≤◌, Bool, true, false, not, ◌&&◌, List, length, get_or, subst, sym, ap, ◌∙◌, refl, arith}
+use Rattle.std.specs.Prelude.{◌⊎◌}
 use mathlib.Core.Logic.{inl, inr}
-use Rattle.std.proofs.lemmas.Bool.{cases_Bool, cases_lt, cases_order}
+use Rattle.std.proofs.lemmas.Bool.{cases_order}
 use Rattle.std.proofs.lemmas.Bool.Decides.{Decides-ltb}
 use Rattle.std.specs.Prelude.{ltb}
 use Rattle.quad_field.specs.FieldNumber.{IsFieldNumber}
 use Rattle.tri_core.specs.declared.half.Half.{Half}
 use Rattle.tri_core.specs.HalfEdges.{twin_at, previous_of}
 use Rattle.tri_core.specs.Triangulation.{IsTriangulation, IsTriangle}
-use Rattle.cone_points.specs.Vertices.{turned, IsVertex, IsNumberOf}
+use Rattle.cone_points.specs.Vertices.{IsVertex, IsNumberOf}
 use Rattle.cone_points.specs.Angles.{IsGenus}
 use Rattle.tri_core.specs.Flips.{IsEdge}
 use Rattle.cone_points.specs.Walks.{TellsUpper, rises_by, number_below}

@@ -3,12 +3,12 @@ use Rattle.std.proofs.Common.{◌≡◌, ℕ, zero, suc, ◌+◌, ◌<◌, ◌�
 use Rattle.std.specs.Prelude.{◌⊎◌, ◌↔◌, IsTrue}
 use mathlib.Core.Logic.{inl, inr}
 use mathlib.Core.Path.{subst₂}
-use Rattle.std.proofs.lemmas.Bool.{cases_Bool, cases_eq, cases_lt, and_parts, and_from, not_from_false}
+use Rattle.std.proofs.lemmas.Bool.{cases_eq, cases_lt, and_parts, and_from, not_from_false}
 use Rattle.std.proofs.lemmas.List.{get_or_append_left, get_or_push, length-append}
 use Rattle.quad_field.specs.FieldNumber.{IsFieldNumber}
 use Rattle.tri_core.specs.declared.half.Half.{Half}
 use Rattle.tri_core.specs.Triangulation.{IsTriangulation}
-use Rattle.cone_points.specs.Vertices.{turned, turned_often, StartsWith, Rises, IsVertex, IsTurns}
+use Rattle.cone_points.specs.Vertices.{turned_often, StartsWith, Rises, IsVertex, IsTurns}
 use Rattle.cone_points.specs.Angles.{sum_of}
 use Rattle.cone_points.specs.Walks.{TellsUpper, rises_by, number_below, IsMarked, risen, IsTurnedOn, AreTurnsBelow, IsRound}
 use Rattle.cone_points.proofs.Rounds.{starts_sym, starts_inside, often_inside}

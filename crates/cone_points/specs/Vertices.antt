@@ -1,5 +1,5 @@
 -- The vertices of a triangulation, and how often each is turned round.
-use Rattle.std.specs.Prelude.{◌≡◌, ◌↔◌, ℕ, zero, suc, ◌+◌, ◌*◌, ◌/◌, ◌%◌, ◌<◌, ◌≤◌, pos, ◌⊎◌, List, length, get_or, Contains}
+use Rattle.std.specs.Prelude.{◌≡◌, ◌↔◌, ℕ, zero, suc, ◌<◌, ◌≤◌, pos, ◌⊎◌, List, length, get_or, Contains}
 use Rattle.quad_field.specs.Quads.{quad_ops, IsPositive}
 use Rattle.quad_field.specs.declared.quad.Quad.{Quad}
 use Rattle.plane.specs.Vectors.{Vector}

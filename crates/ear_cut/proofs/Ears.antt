@@ -1,5 +1,5 @@
 -- Convex polygons can be cut, ear by ear.
-use Rattle.std.proofs.Common.{◌≡◌, ℕ, zero, suc, ◌+◌, ◌<◌, ◌≤◌, List, [], ◌∷◌, ◌++◌, length, get_or, subst, sym, ap, ◌∙◌, refl, arith}
+use Rattle.std.proofs.Common.{◌≡◌, ℕ, zero, suc, ◌<◌, ◌≤◌, List, [], ◌∷◌, ◌++◌, length, subst, sym, ap, ◌∙◌, refl, arith}
 use Rattle.std.specs.Prelude.{pos, ◌⊎◌}
 use Rattle.std.specs.List.{AllByRecursion}
 use mathlib.Core.Logic.{inl, inr}
@@ -15,12 +15,12 @@ use Rattle.quad_field.specs.FieldNumber.{IsFieldNumber}
 use Rattle.quad_field.specs.declared.quad.Quad.{Quad}
 use Rattle.quad_field.proofs.KIntegers.{quad_ring, quad_order}
 use Rattle.plane.specs.Vectors.{Vector, det, vector_sum}
-use Rattle.gluing.specs.Polygons.{no_vector, zero_of, side_at, side_after, corner, sum_of, IsFlat, Rises, IsProper}
+use Rattle.gluing.specs.Polygons.{no_vector, zero_of, side_at, side_after, corner, sum_of, IsFlat, IsProper}
 use Rattle.ear_cut.specs.Cuttings.{chord_at, replaced, HasPositiveCorner, IsEar}
 use Rattle.ear_cut.specs.Cuttable.{NeverTurnsRight, IsCuttable}
 use Rattle.ear_cut.proofs.Splits.{all_both, all_first, all_second, last_of}
 use Rattle.ear_cut.proofs.Turning.{NN, nn_of, not_negative, both, total, total_turned, total_merged, det_closed_second, det_closed_third, InConvexPosition, convex_turned, convex_merged, Upper, Goes, Chain, chain_of, chain_joined, rising_convex}
-use Rattle.ear_cut.proofs.Corners.{Inner, Seam, inner_or_seam, length_push, at_place, replaced_inner, replaced_seam, at_inner, after_inner, at_seam, after_seam, corner_inner, corner_seam}
+use Rattle.ear_cut.proofs.Corners.{Inner, Seam, inner_or_seam, length_push, replaced_inner, replaced_seam, at_inner, after_inner, at_seam, after_seam, corner_inner, corner_seam}
 use Rattle.ear_cut.proofs.Parallel.{Parallel, parallel_turned, parallel_trans, parallel_self, parallel_part, parallel_other_part, all_parallel}
 
 -- a place below n where F holds, or none
@@ -32,12 +32,12 @@ search_below F decide (suc n) = go (decide n) (search_below F decide n)
     go (inl f) _ = inl (n, omega arith, f)
     go (inr _) (inl w) = inl (w.0, omega (arith, w.1), w.2)
     go (inr not) (inr none) = inr (λ i h f. elim (equal_or_below i h) [
-          | inl e ↦ not (subst F e f)
-          | inr below ↦ none i below f
-        ])
+      | inl e ↦ not (subst F e f)
+      | inr below ↦ none i below f
+    ])
       where
         equal_or_below : (i : ℕ) → i < suc n → (i ≡ n) ⊎ (i < n)
-        equal_or_below i h = elim (below_or_not i) [ | inl b ↦ inr b | inr nb ↦ inl (omega (arith, h, nb)) ]
+        equal_or_below i h = elim (below_or_not i) [ inl b ↦ inr b | inr nb ↦ inl (omega (arith, h, nb)) ]
           where
             below_or_not : (i : ℕ) → (i < n) ⊎ (n ≤ i)
             below_or_not i = cases_lt i n
@@ -136,14 +136,24 @@ module _ (d : ℕ) (field : IsFieldNumber d) where
   HasEar l = (i : ℕ) × IsEar d l i
 
   ear_inner : (p q : List Vec) (u v : Vec) → IsPositive d (det O u v) → HasPositiveCorner d (p ++ (vector_sum O u v ∷ q)) → HasEar (p ++ (u ∷ v ∷ q))
-  ear_inner p q u v h some = (length p, (
-      omega (arith, length-append p (u ∷ v ∷ q)), subst (IsPositive d) (sym (corner_inner d p q u v)) h, subst (HasPositiveCorner d) (sym (left_inner p q u v)) some
-    ))
+  ear_inner p q u v h some = (
+    length p,
+    (
+      omega (arith, length-append p (u ∷ v ∷ q)),
+      subst (IsPositive d) (sym (corner_inner d p q u v)) h,
+      subst (HasPositiveCorner d) (sym (left_inner p q u v)) some,
+    ),
+  )
 
   ear_seam : (m : List Vec) (u v : Vec) → IsPositive d (det O u v) → HasPositiveCorner d (m ++ (vector_sum O u v ∷ [])) → HasEar (v ∷ (m ++ (u ∷ [])))
-  ear_seam m u v h some = (suc (length m), (
-      omega (arith, length_push m u), subst (IsPositive d) (sym (corner_seam d m u v)) h, subst (HasPositiveCorner d) (sym (left_seam m u v)) some
-    ))
+  ear_seam m u v h some = (
+    suc (length m),
+    (
+      omega (arith, length_push m u),
+      subst (IsPositive d) (sym (corner_seam d m u v)) h,
+      subst (HasPositiveCorner d) (sym (left_seam m u v)) some,
+    ),
+  )
 
   some_or_none : (l : List Vec) → HasPositiveCorner d l ⊎ ((i : ℕ) → i < length l → ¬ (IsPositive d (corner d l i)))
   some_or_none l = search_below (λ i. IsPositive d (corner d l i)) (λ i. positive_or_not (corner d l i)) (length l)
@@ -151,12 +161,14 @@ module _ (d : ℕ) (field : IsFieldNumber d) where
   -- a list in convex position without a positive corner: all its vectors are parallel
   flat_parallel : (f : Vec) (l : List Vec) → Convex (f ∷ l) → AllNonzero (f ∷ l) → ((i : ℕ) → i < length (f ∷ l) → ¬ (IsPositive d (corner d (f ∷ l) i)))
       → AllByRecursion (Parallel O ring order f) (f ∷ l)
-  flat_parallel f l convex nonzero none =
-      (parallel_self O ring order f, all_parallel O ring order f f l nonzero.0 nonzero.1 (parallel_self O ring order f) (λ a x y b e.
+  flat_parallel f l convex nonzero none = (
+    parallel_self O ring order f,
+    all_parallel O ring order f f l nonzero.0 nonzero.1 (parallel_self O ring order f) (λ a x y b e.
         zero_from (det O x y) (adjacent (f ∷ l) convex a b x y e)
         (λ h. none (length a) (omega (arith, ap length e, length-append a (x ∷ y ∷ b)))
         (subst (λ z. IsPositive d (corner d z (length a))) (sym e) (subst (IsPositive d) (sym (corner_inner d a b x y)) h)))
-      ))
+        ),
+  )
 
   -- any two of them
   flat_pair : (l : List Vec) → Convex l → AllNonzero l → ((i : ℕ) → i < length l → ¬ (IsPositive d (corner d l i)))
@@ -173,9 +185,9 @@ module _ (d : ℕ) (field : IsFieldNumber d) where
   sum_nonzero : (u v : Vec) → IsPositive d (det O u v) → ¬ (vector_sum O u v ≡ no_vector d)
   sum_nonzero u v h e =
       positive_nonzero (det O u v) h (
-        identity O ring (u.0 ∷ u.1 ∷ v.0 ∷ v.1 ∷ []) (determinant expr (var 0, var 1) (var 2, var 3)) (determinant expr (var 0, var 1) (expr.add (var 0) (var 2), expr.add (var 1) (var 3))) tt
-        ∙ ap (det O u) e
-        ∙ identity O ring (u.0 ∷ u.1 ∷ []) (determinant expr (var 0, var 1) (expr.int (pos 0), expr.int (pos 0))) (expr.int (pos 0)) tt
+      identity O ring (u.0 ∷ u.1 ∷ v.0 ∷ v.1 ∷ []) (determinant expr (var 0, var 1) (var 2, var 3)) (determinant expr (var 0, var 1) (expr.add (var 0) (var 2), expr.add (var 1) (var 3))) tt
+      ∙ ap (det O u) e
+      ∙ identity O ring (u.0 ∷ u.1 ∷ []) (determinant expr (var 0, var 1) (expr.int (pos 0), expr.int (pos 0))) (expr.int (pos 0)) tt
       )
 
   -- where cutting at u and v leaves nothing but parallel sides, the next two sides turn to the left
@@ -239,12 +251,12 @@ module _ (d : ℕ) (field : IsFieldNumber d) where
           let q_is : q ≡ last.0 ++ (last.1 ∷ []) = k ∙ last.2 in
           let z = last.1 in
           let z_nonzero : ¬ (z ≡ no_vector d) =
-              one_nonzero (p ++ (u ∷ v ∷ y ∷ q)) nonzero (p ++ (u ∷ v ∷ y ∷ last.0)) z [] (ap (λ s. p ++ (u ∷ v ∷ y ∷ s)) q_is ∙ sym (append_assoc p (u ∷ v ∷ y ∷ last.0) (z ∷ []))) in
+          one_nonzero (p ++ (u ∷ v ∷ y ∷ q)) nonzero (p ++ (u ∷ v ∷ y ∷ last.0)) z [] (ap (λ s. p ++ (u ∷ v ∷ y ∷ s)) q_is ∙ sym (append_assoc p (u ∷ v ∷ y ∷ last.0) (z ∷ []))) in
           let whole : p ++ (u ∷ v ∷ y ∷ q) ≡ u ∷ ((v ∷ y ∷ last.0) ++ (z ∷ [])) = ap (λ s. s ++ (u ∷ v ∷ y ∷ q)) e ∙ ap (λ s. u ∷ v ∷ y ∷ s) q_is in
           let corner : IsPositive d (det O z u) =
-              before_positive z u v h z_nonzero
-              (flat (p ++ (vector_sum O u v ∷ y ∷ last.0)) [] z (ap (λ s. p ++ (vector_sum O u v ∷ y ∷ s)) q_is ∙ sym (append_assoc p (vector_sum O u v ∷ y ∷ last.0) (z ∷ []))))
-              (adjacent_seam u (v ∷ y ∷ last.0) z (subst Convex whole convex) (ap (total O ring order) (sym whole) ∙ closed)) in
+          before_positive z u v h z_nonzero
+          (flat (p ++ (vector_sum O u v ∷ y ∷ last.0)) [] z (ap (λ s. p ++ (vector_sum O u v ∷ y ∷ s)) q_is ∙ sym (append_assoc p (vector_sum O u v ∷ y ∷ last.0) (z ∷ []))))
+          (adjacent_seam u (v ∷ y ∷ last.0) z (subst Convex whole convex) (ap (total O ring order) (sym whole) ∙ closed)) in
           ear (subst (HasPositiveCorner d)
           (sym (ap (λ s. (s ++ (u ∷ [])) ++ (vector_sum O v y ∷ q)) e ∙ ap (λ s. u ∷ vector_sum O v y ∷ s) q_is))
           (positive_seam (vector_sum O v y ∷ last.0) z u corner))
@@ -255,9 +267,9 @@ module _ (d : ℕ) (field : IsFieldNumber d) where
           let split : (s : List Vec) → p ++ s ≡ last.0 ++ (z ∷ s) = λ s. ap (λ t. t ++ s) p_is ∙ append_assoc last.0 (z ∷ []) s in
           let z_nonzero : ¬ (z ≡ no_vector d) = one_nonzero (p ++ (u ∷ v ∷ y ∷ q)) nonzero last.0 z (u ∷ v ∷ y ∷ q) (split (u ∷ v ∷ y ∷ q)) in
           let corner : IsPositive d (det O z u) =
-              before_positive z u v h z_nonzero
-              (flat last.0 (vector_sum O u v ∷ y ∷ q) z (split (vector_sum O u v ∷ y ∷ q)))
-              (adjacent (p ++ (u ∷ v ∷ y ∷ q)) convex last.0 (v ∷ y ∷ q) z u (split (u ∷ v ∷ y ∷ q))) in
+          before_positive z u v h z_nonzero
+          (flat last.0 (vector_sum O u v ∷ y ∷ q) z (split (vector_sum O u v ∷ y ∷ q)))
+          (adjacent (p ++ (u ∷ v ∷ y ∷ q)) convex last.0 (v ∷ y ∷ q) z u (split (u ∷ v ∷ y ∷ q))) in
           ear (subst (HasPositiveCorner d)
           (sym (append_assoc p (u ∷ []) (vector_sum O v y ∷ q) ∙ split (u ∷ vector_sum O v y ∷ q)))
           (positive_inner last.0 (vector_sum O v y ∷ q) z u corner))
@@ -268,15 +280,15 @@ module _ (d : ℕ) (field : IsFieldNumber d) where
       let z = last.1 in
       let split : (s : List Vec) → x ∷ (p ++ s) ≡ last.0 ++ (z ∷ s) = λ s. ap (λ t. t ++ s) last.2 ∙ append_assoc last.0 (z ∷ []) s in
       let flat : (a b : List Vec) (t : Vec) → y ∷ x ∷ (p ++ (vector_sum O u v ∷ [])) ≡ a ++ (t ∷ b) → Parallel O ring order t (vector_sum O u v) =
-          λ a b t e. flat_pair (y ∷ x ∷ (p ++ (vector_sum O u v ∷ []))) (left_convex (y ∷ x ∷ p) [] u v convex) (left_nonzero (y ∷ x ∷ p) [] u v h nonzero) none a b t e (y ∷ x ∷ p) [] (vector_sum O u v) refl in
+      λ a b t e. flat_pair (y ∷ x ∷ (p ++ (vector_sum O u v ∷ []))) (left_convex (y ∷ x ∷ p) [] u v convex) (left_nonzero (y ∷ x ∷ p) [] u v h nonzero) none a b t e (y ∷ x ∷ p) [] (vector_sum O u v) refl in
       let seam : y ∷ x ∷ (p ++ (u ∷ v ∷ [])) ≡ y ∷ ((x ∷ (p ++ (u ∷ []))) ++ (v ∷ [])) = ap (λ s. y ∷ x ∷ s) (sym (append_assoc p (u ∷ []) (v ∷ []))) in
       let turn : IsPositive d (det O v y) =
-          next_positive u v y h nonzero.0 (flat [] (x ∷ (p ++ (vector_sum O u v ∷ []))) y refl)
-          (adjacent_seam y (x ∷ (p ++ (u ∷ []))) v (subst Convex seam convex) (ap (total O ring order) (sym seam) ∙ closed)) in
+      next_positive u v y h nonzero.0 (flat [] (x ∷ (p ++ (vector_sum O u v ∷ []))) y refl)
+      (adjacent_seam y (x ∷ (p ++ (u ∷ []))) v (subst Convex seam convex) (ap (total O ring order) (sym seam) ∙ closed)) in
       let z_nonzero : ¬ (z ≡ no_vector d) = one_nonzero (y ∷ x ∷ (p ++ (u ∷ v ∷ []))) nonzero (y ∷ last.0) z (u ∷ v ∷ []) (ap (λ s. y ∷ s) (split (u ∷ v ∷ []))) in
       let corner : IsPositive d (det O z u) =
-          before_positive z u v h z_nonzero (flat (y ∷ last.0) (vector_sum O u v ∷ []) z (ap (λ s. y ∷ s) (split (vector_sum O u v ∷ []))))
-          (adjacent (y ∷ x ∷ (p ++ (u ∷ v ∷ []))) convex (y ∷ last.0) (v ∷ []) z u (ap (λ s. y ∷ s) (split (u ∷ v ∷ [])))) in
+      before_positive z u v h z_nonzero (flat (y ∷ last.0) (vector_sum O u v ∷ []) z (ap (λ s. y ∷ s) (split (vector_sum O u v ∷ []))))
+      (adjacent (y ∷ x ∷ (p ++ (u ∷ v ∷ []))) convex (y ∷ last.0) (v ∷ []) z u (ap (λ s. y ∷ s) (split (u ∷ v ∷ [])))) in
       subst HasEar (sym seam) (ear_seam (x ∷ (p ++ (u ∷ []))) v y turn
       (subst (HasPositiveCorner d) (sym (ap (λ s. x ∷ s) (append_assoc p (u ∷ []) (vector_sum O v y ∷ [])) ∙ split (u ∷ vector_sum O v y ∷ [])))
       (positive_inner last.0 (vector_sum O v y ∷ []) z u corner)))
@@ -295,14 +307,14 @@ module _ (d : ℕ) (field : IsFieldNumber d) where
       let rest_convex : Convex (y ∷ x ∷ (m ++ (vector_sum O u v ∷ []))) = left_convex (y ∷ x ∷ m) [] u v (convex_seam v (y ∷ x ∷ m) u convex closed) in
       let rest_nonzero : AllNonzero (y ∷ x ∷ (m ++ (vector_sum O u v ∷ []))) = left_nonzero (y ∷ x ∷ m) [] u v h (nonzero_seam v (y ∷ x ∷ m) u nonzero) in
       let flat : (a b : List Vec) (t : Vec) → y ∷ x ∷ (m ++ (vector_sum O u v ∷ [])) ≡ a ++ (t ∷ b) → Parallel O ring order t (vector_sum O u v) =
-          λ a b t e. flat_pair (y ∷ x ∷ (m ++ (vector_sum O u v ∷ []))) rest_convex rest_nonzero none a b t e (y ∷ x ∷ m) [] (vector_sum O u v) refl in
+      λ a b t e. flat_pair (y ∷ x ∷ (m ++ (vector_sum O u v ∷ []))) rest_convex rest_nonzero none a b t e (y ∷ x ∷ m) [] (vector_sum O u v) refl in
       let turn : IsPositive d (det O v y) =
-          next_positive u v y h nonzero.1.0 (flat [] (x ∷ (m ++ (vector_sum O u v ∷ []))) y refl)
-          (adjacent (v ∷ y ∷ x ∷ (m ++ (u ∷ []))) convex [] (x ∷ (m ++ (u ∷ []))) v y refl) in
+      next_positive u v y h nonzero.1.0 (flat [] (x ∷ (m ++ (vector_sum O u v ∷ []))) y refl)
+      (adjacent (v ∷ y ∷ x ∷ (m ++ (u ∷ []))) convex [] (x ∷ (m ++ (u ∷ []))) v y refl) in
       let z_nonzero : ¬ (z ≡ no_vector d) = one_nonzero (v ∷ y ∷ x ∷ (m ++ (u ∷ []))) nonzero (v ∷ y ∷ last.0) z (u ∷ []) (ap (λ s. v ∷ y ∷ s) (split (u ∷ []))) in
       let corner : IsPositive d (det O z u) =
-          before_positive z u v h z_nonzero (flat (y ∷ last.0) (vector_sum O u v ∷ []) z (ap (λ s. y ∷ s) (split (vector_sum O u v ∷ []))))
-          (adjacent (v ∷ y ∷ x ∷ (m ++ (u ∷ []))) convex (v ∷ y ∷ last.0) [] z u (ap (λ s. v ∷ y ∷ s) (split (u ∷ [])))) in
+      before_positive z u v h z_nonzero (flat (y ∷ last.0) (vector_sum O u v ∷ []) z (ap (λ s. y ∷ s) (split (vector_sum O u v ∷ []))))
+      (adjacent (v ∷ y ∷ x ∷ (m ++ (u ∷ []))) convex (v ∷ y ∷ last.0) [] z u (ap (λ s. v ∷ y ∷ s) (split (u ∷ [])))) in
       ear_inner [] (x ∷ (m ++ (u ∷ []))) v y turn
       (subst (HasPositiveCorner d) (sym (ap (λ s. vector_sum O v y ∷ s) (split (u ∷ []))))
       (positive_inner (vector_sum O v y ∷ last.0) [] z u corner))
@@ -320,17 +332,17 @@ module _ (d : ℕ) (field : IsFieldNumber d) where
 
       inner : (p q : List Vec) (u v : Vec) → sides ≡ p ++ (u ∷ v ∷ q) → IsPositive d (det O u v) → HasEar sides
       inner p q u v e h = elim (some_or_none (p ++ (vector_sum O u v ∷ q))) [
-          | inl some ↦ subst HasEar (sym e) (ear_inner p q u v h some)
-          | inr none ↦ subst HasEar (sym e)
-              (next_ear_inner p q u v (subst (λ s. 4 ≤ length s) e long) (subst Convex e convex) (subst AllNonzero e cuttable.nonzero) (ap (total O ring order) (sym e) ∙ closed) h none)
-        ]
+        | inl some ↦ subst HasEar (sym e) (ear_inner p q u v h some)
+        | inr none ↦ subst HasEar (sym e)
+            (next_ear_inner p q u v (subst (λ s. 4 ≤ length s) e long) (subst Convex e convex) (subst AllNonzero e cuttable.nonzero) (ap (total O ring order) (sym e) ∙ closed) h none)
+      ]
 
       seam : (v : Vec) (m : List Vec) (u : Vec) → sides ≡ v ∷ (m ++ (u ∷ [])) → IsPositive d (det O u v) → HasEar sides
       seam v m u e h = elim (some_or_none (m ++ (vector_sum O u v ∷ []))) [
-          | inl some ↦ subst HasEar (sym e) (ear_seam m u v h some)
-          | inr none ↦ subst HasEar (sym e)
-              (next_ear_seam v m u (subst (λ s. 4 ≤ length s) e long) (subst Convex e convex) (subst AllNonzero e cuttable.nonzero) (ap (total O ring order) (sym e) ∙ closed) h none)
-        ]
+        | inl some ↦ subst HasEar (sym e) (ear_seam m u v h some)
+        | inr none ↦ subst HasEar (sym e)
+            (next_ear_seam v m u (subst (λ s. 4 ≤ length s) e long) (subst Convex e convex) (subst AllNonzero e cuttable.nonzero) (ap (total O ring order) (sym e) ∙ closed) h none)
+      ]
 
       go : Inner sides cuttable.some.0 ⊎ Seam sides cuttable.some.0 → HasEar sides
       go (inl w) =
@@ -355,17 +367,17 @@ module _ (d : ℕ) (field : IsFieldNumber d) where
       go : Inner sides i ⊎ Seam sides i → IsCuttable d (replaced sides i (chord_at d sides i))
       go (inl w) =
           let e : replaced sides i (chord_at d sides i) ≡ w.p ++ (vector_sum O w.u w.v ∷ w.q) =
-              ap (λ s. replaced s i (chord_at d s i)) w.parts ∙ ap (λ k. replaced (w.p ++ (w.u ∷ w.v ∷ w.q)) k (chord_at d (w.p ++ (w.u ∷ w.v ∷ w.q)) k)) w.place ∙ left_inner w.p w.q w.u w.v in
+          ap (λ s. replaced s i (chord_at d s i)) w.parts ∙ ap (λ k. replaced (w.p ++ (w.u ∷ w.v ∷ w.q)) k (chord_at d (w.p ++ (w.u ∷ w.v ∷ w.q)) k)) w.place ∙ left_inner w.p w.q w.u w.v in
           let h : IsPositive d (det O w.u w.v) =
-              subst (IsPositive d) (ap (λ s. corner d s i) w.parts ∙ ap (corner d (w.p ++ (w.u ∷ w.v ∷ w.q))) w.place ∙ corner_inner d w.p w.q w.u w.v) ear.1 in
+          subst (IsPositive d) (ap (λ s. corner d s i) w.parts ∙ ap (corner d (w.p ++ (w.u ∷ w.v ∷ w.q))) w.place ∙ corner_inner d w.p w.q w.u w.v) ear.1 in
           make (w.p ++ (vector_sum O w.u w.v ∷ w.q)) e (left_convex w.p w.q w.u w.v (subst Convex w.parts convex))
           (left_nonzero w.p w.q w.u w.v h (subst AllNonzero w.parts cuttable.nonzero))
           (sym (total_merged O ring order w.p w.q w.u w.v) ∙ ap (total O ring order) (sym w.parts) ∙ closed)
       go (inr w) =
           let e : replaced sides i (chord_at d sides i) ≡ w.m ++ (vector_sum O w.u w.v ∷ []) =
-              ap (λ s. replaced s i (chord_at d s i)) w.parts ∙ ap (λ k. replaced (w.v ∷ (w.m ++ (w.u ∷ []))) k (chord_at d (w.v ∷ (w.m ++ (w.u ∷ []))) k)) w.place ∙ left_seam w.m w.u w.v in
+          ap (λ s. replaced s i (chord_at d s i)) w.parts ∙ ap (λ k. replaced (w.v ∷ (w.m ++ (w.u ∷ []))) k (chord_at d (w.v ∷ (w.m ++ (w.u ∷ []))) k)) w.place ∙ left_seam w.m w.u w.v in
           let h : IsPositive d (det O w.u w.v) =
-              subst (IsPositive d) (ap (λ s. corner d s i) w.parts ∙ ap (corner d (w.v ∷ (w.m ++ (w.u ∷ [])))) w.place ∙ corner_seam d w.m w.u w.v) ear.1 in
+          subst (IsPositive d) (ap (λ s. corner d s i) w.parts ∙ ap (corner d (w.v ∷ (w.m ++ (w.u ∷ [])))) w.place ∙ corner_seam d w.m w.u w.v) ear.1 in
           let whole : total O ring order (w.v ∷ (w.m ++ (w.u ∷ []))) ≡ no_vector d = ap (total O ring order) (sym w.parts) ∙ closed in
           make (w.m ++ (vector_sum O w.u w.v ∷ [])) e (left_convex w.m [] w.u w.v (convex_seam w.v w.m w.u (subst Convex w.parts convex) whole))
           (left_nonzero w.m [] w.u w.v h (nonzero_seam w.v w.m w.u (subst AllNonzero w.parts cuttable.nonzero)))
@@ -376,9 +388,9 @@ module _ (d : ℕ) (field : IsFieldNumber d) where
   pub last_closed : (u v w : Vec) → IsCuttable d (u ∷ v ∷ w ∷ []) → vector_sum O (vector_sum O u v) w ≡ no_vector d
   last_closed u v w cuttable =
       (λ i. (
-          identity O ring (u.0 ∷ v.0 ∷ w.0 ∷ []) (expr.add (expr.add (var 0) (var 1)) (var 2)) (expr.add (var 0) (expr.add (var 1) (expr.add (var 2) (expr.int (pos 0))))) tt i,
-          identity O ring (u.1 ∷ v.1 ∷ w.1 ∷ []) (expr.add (expr.add (var 0) (var 1)) (var 2)) (expr.add (var 0) (expr.add (var 1) (expr.add (var 2) (expr.int (pos 0))))) tt i,
-        )) ∙ cuttable.closed
+        identity O ring (u.0 ∷ v.0 ∷ w.0 ∷ []) (expr.add (expr.add (var 0) (var 1)) (var 2)) (expr.add (var 0) (expr.add (var 1) (expr.add (var 2) (expr.int (pos 0))))) tt i,
+        identity O ring (u.1 ∷ v.1 ∷ w.1 ∷ []) (expr.add (expr.add (var 0) (var 1)) (var 2)) (expr.add (var 0) (expr.add (var 1) (expr.add (var 2) (expr.int (pos 0))))) tt i,
+      )) ∙ cuttable.closed
 
   -- and turn to the left
   pub last_turns : (u v w : Vec) → IsCuttable d (u ∷ v ∷ w ∷ []) → IsPositive d (det O u v)
@@ -406,7 +418,7 @@ module _ (d : ℕ) (field : IsFieldNumber d) where
 
   -- a proper polygon has more than one side
   proper_long : (sides : List Vec) → IsProper d sides → 2 ≤ length sides
-  proper_long sides proper = elim (cases_lt (length sides) 2) [ | inl short ↦ absurd (proper.not_flat (short_flat sides short)) | inr long ↦ long ]
+  proper_long sides proper = elim (cases_lt (length sides) 2) [ inl short ↦ absurd (proper.not_flat (short_flat sides short)) | inr long ↦ long ]
 
   all_nonzero : (sides : List Vec) → ((i : ℕ) → i < length sides → ¬ (side_at d sides i ≡ no_vector d)) → AllNonzero sides
   all_nonzero [] h = tt
@@ -415,9 +427,9 @@ module _ (d : ℕ) (field : IsFieldNumber d) where
   -- at every corner but the one where the half rises, a proper polygon goes on
   goes_at : (sides : List Vec) (proper : IsProper d sides) (i : ℕ) → i < length sides → ¬ (i ≡ proper.convex.once.0) → (u v : Vec) → side_at d sides i ≡ u → side_after d sides i ≡ v → Goes O ring order u v
   goes_at sides proper i inside other u v e k = (
-      subst (NN O ring order) (ap (λ w. det O w (side_after d sides i)) e ∙ ap (det O u) k) (nn_of O ring order _ (proper.convex.never_right i inside)),
-      λ rise. other (proper.convex.once.3 i inside (subst (λ w. ¬ (Upper O ring order w)) (sym e) rise.0, subst (Upper O ring order) (sym k) rise.1))
-    )
+    subst (NN O ring order) (ap (λ w. det O w (side_after d sides i)) e ∙ ap (det O u) k) (nn_of O ring order _ (proper.convex.never_right i inside)),
+    λ rise. other (proper.convex.once.3 i inside (subst (λ w. ¬ (Upper O ring order w)) (sym e) rise.0, subst (Upper O ring order) (sym k) rise.1)),
+  )
 
   goes_inner : (sides : List Vec) (proper : IsProper d sides) (p q : List Vec) (u v : Vec) → sides ≡ p ++ (u ∷ v ∷ q) → ¬ (length p ≡ proper.convex.once.0) → Goes O ring order u v
   goes_inner sides proper p q u v e other =
@@ -451,8 +463,8 @@ module _ (d : ℕ) (field : IsFieldNumber d) where
       (rising_convex O ring order w.v (w.m ++ (w.u ∷ [])) (upper_seam sides proper w.m w.u w.v w.parts w.place)
       (subst AllNonzero w.parts (proper_nonzero sides proper)).1
       (chain_of O ring order (Goes O ring order) (w.v ∷ (w.m ++ (w.u ∷ []))) (λ a x y b e.
-        goes_inner sides proper a b x y (w.parts ∙ e)
-        (λ k. omega (arith, k, w.place, ap length e, length_push w.m w.u, length-append a (x ∷ y ∷ b)))))
+      goes_inner sides proper a b x y (w.parts ∙ e)
+      (λ k. omega (arith, k, w.place, ap length e, length_push w.m w.u, length-append a (x ∷ y ∷ b)))))
       (ap (total O ring order) (sym w.parts) ∙ proper_total sides proper))
 
   -- the rise is inside: the list is begun behind it
@@ -477,13 +489,13 @@ module _ (d : ℕ) (field : IsFieldNumber d) where
 
       front : Chain O ring order (Goes O ring order) (w.v ∷ w.q)
       front = chain_of O ring order (Goes O ring order) (w.v ∷ w.q) (λ a x y b e.
-            goes_inner sides proper (w.p ++ (w.u ∷ a)) b x y (w.parts ∙ ap (λ s. w.p ++ (w.u ∷ s)) e ∙ sym (append_assoc w.p (w.u ∷ a) (x ∷ y ∷ b)))
-            (λ k. omega (arith, k, w.place, length-append w.p (w.u ∷ a))))
+          goes_inner sides proper (w.p ++ (w.u ∷ a)) b x y (w.parts ∙ ap (λ s. w.p ++ (w.u ∷ s)) e ∙ sym (append_assoc w.p (w.u ∷ a) (x ∷ y ∷ b)))
+          (λ k. omega (arith, k, w.place, length-append w.p (w.u ∷ a))))
 
       back : Chain O ring order (Goes O ring order) (w.p ++ (w.u ∷ []))
       back = chain_of O ring order (Goes O ring order) (w.p ++ (w.u ∷ [])) (λ a x y b e.
-            goes_inner sides proper a (b ++ (w.v ∷ w.q)) x y (parts ∙ ap (λ s. s ++ (w.v ∷ w.q)) e ∙ append_assoc a (x ∷ y ∷ b) (w.v ∷ w.q))
-            (λ k. omega (arith, k, w.place, ap length e, length_push w.p w.u, length-append a (x ∷ y ∷ b))))
+          goes_inner sides proper a (b ++ (w.v ∷ w.q)) x y (parts ∙ ap (λ s. s ++ (w.v ∷ w.q)) e ∙ append_assoc a (x ∷ y ∷ b) (w.v ∷ w.q))
+          (λ k. omega (arith, k, w.place, ap length e, length_push w.p w.u, length-append a (x ∷ y ∷ b))))
 
       turned_chain : Chain O ring order (Goes O ring order) ((w.v ∷ w.q) ++ (w.p ++ (w.u ∷ [])))
       turned_chain = joined (w.p ++ (w.u ∷ [])) refl
@@ -503,9 +515,9 @@ module _ (d : ℕ) (field : IsFieldNumber d) where
   -- a proper polygon is in convex position
   proper_convex : (sides : List Vec) → IsProper d sides → Convex sides
   proper_convex sides proper = elim (inner_or_seam sides proper.convex.once.0 (proper_long sides proper) proper.convex.once.1) [
-      | inl w ↦ convex_from_inner sides proper w
-      | inr w ↦ convex_from_seam sides proper w
-    ]
+    | inl w ↦ convex_from_inner sides proper w
+    | inr w ↦ convex_from_seam sides proper w
+  ]
 
   -- a proper polygon can be cut
   pub proper_cuttable : (sides : List Vec) → IsProper d sides → IsCuttable d sides
@@ -514,7 +526,7 @@ module _ (d : ℕ) (field : IsFieldNumber d) where
     nonzero = proper_nonzero sides proper;
     left = never_right sides (proper_convex sides proper);
     some = elim (some_or_none sides) [
-        | inl some ↦ some
-        | inr none ↦ absurd (proper.not_flat (λ i inside. zero_from (corner d sides i) (nn_of O ring order _ (proper.convex.never_right i inside)) (none i inside)))
-      ];
+      | inl some ↦ some
+      | inr none ↦ absurd (proper.not_flat (λ i inside. zero_from (corner d sides i) (nn_of O ring order _ (proper.convex.never_right i inside)) (none i inside)))
+    ];
   }

@@ -1,9 +1,9 @@
 -- Vectors that are parallel, one after another.
-use Rattle.std.proofs.Common.{◌≡◌, List, [], ◌∷◌, ◌++◌, subst, sym, ap, ◌∙◌, refl}
+use Rattle.std.proofs.Common.{◌≡◌, List, [], ◌∷◌, ◌++◌, ap, ◌∙◌, refl}
 use Rattle.std.specs.Prelude.{pos, ◌⊎◌}
 use Rattle.std.specs.List.{AllByRecursion}
 use mathlib.Core.Logic.{inl, inr}
-use Rattle.rings.specs.Ring.{Ops, IsRing, Expr, var, expr, look, eval}
+use Rattle.rings.specs.Ring.{Ops, IsRing, var, expr}
 use Rattle.rings.specs.Order.{IsOrdered}
 use Rattle.rings.specs.Forms.{determinant}
 use Rattle.rings.proofs.Solver.{identity}
@@ -13,7 +13,6 @@ open expr use {add as ◌+'◌, sub as ◌-'◌, mul as ◌*'◌, neg as neg', i
 infixl 60 ◌+'◌
 infixl 60 ◌-'◌
 infixl 70 ◌*'◌
-
 module _ {R : Type 0} (O : Ops R) (L : IsRing O) {P : R → Type 0} (Q : IsOrdered O P) where
   open O use {add as ◌⊕◌, sub as ◌⊖◌, mul as ◌⊗◌, neg as minus, int as num_of}
 
@@ -68,6 +67,7 @@ module _ {R : Type 0} (O : Ops R) (L : IsRing O) {P : R → Type 0} (Q : IsOrder
       let both : Parallel (u.0 ⊕ v.0, u.1 ⊕ v.1) v = parallel_trans (u.0 ⊕ v.0, u.1 ⊕ v.1) w v nonzero (parallel_turned w (u.0 ⊕ v.0, u.1 ⊕ v.1) h) k in
       identity O L (u.0 ∷ u.1 ∷ v.0 ∷ v.1 ∷ []) (determinant expr (var 0, var 1) (var 2, var 3)) (determinant expr (var 0 +' var 2, var 1 +' var 3) (var 2, var 3)) tt
       ∙ both
+
   pub parallel_other_part : (u v w : R × R) → ¬ (w ≡ Nothing) → Parallel w (u.0 ⊕ v.0, u.1 ⊕ v.1) → Parallel w u → Parallel u v
   parallel_other_part u v w nonzero h k =
       let both : Parallel u (u.0 ⊕ v.0, u.1 ⊕ v.1) = parallel_trans u w (u.0 ⊕ v.0, u.1 ⊕ v.1) nonzero (parallel_turned w u k) h in

@@ -3,26 +3,24 @@ use Rattle.std.proofs.Common.{◌≡◌, List, [], ◌∷◌, ◌++◌, subst, s
 use Rattle.std.specs.Prelude.{pos, ◌⊎◌, ⊤}
 use Rattle.std.specs.List.{AllByRecursion}
 use mathlib.Core.Logic.{inl, inr}
-use Rattle.rings.specs.Ring.{Ops, IsRing, Expr, var, expr, look, eval}
+use Rattle.rings.specs.Ring.{Ops, IsRing, var, expr}
 use Rattle.rings.specs.Order.{IsOrdered, Sign, is_zero, is_positive, is_negative, IsNotNegative}
 use Rattle.rings.specs.Forms.{determinant}
 use Rattle.rings.proofs.Solver.{identity}
 use Rattle.rings.proofs.Ordered.{not_both_signs, product_negative, product_not_negative, sum_not_negative}
 use Rattle.std.proofs.lemmas.List.{append_assoc}
-use Rattle.ear_cut.proofs.Splits.{meet, Beyond, place, InFirst, InSecond, all_both, all_first, all_second}
+use Rattle.ear_cut.proofs.Splits.{meet, place, all_both, all_first, all_second}
 open expr use {add as ◌+'◌, sub as ◌-'◌, mul as ◌*'◌, neg as neg', int as int'}
 
 infixl 60 ◌+'◌
 infixl 60 ◌-'◌
 infixl 70 ◌*'◌
-
 module _ {R : Type 0} (O : Ops R) (L : IsRing O) {P : R → Type 0} (Q : IsOrdered O P) where
   open O use {add as ◌⊕◌, sub as ◌⊖◌, mul as ◌⊗◌, neg as minus, int as num_of}
 
   infixl 60 ◌⊕◌
   infixl 60 ◌⊖◌
   infixl 70 ◌⊗◌
-
   -- zero or positive
   abbrev pub NN : R → Type 0
   NN a = IsNotNegative O P a
@@ -122,15 +120,16 @@ module _ {R : Type 0} (O : Ops R) (L : IsRing O) {P : R → Type 0} (Q : IsOrder
     trans = λ a b c ha hb hc h k. subst NN (det_opposite a c)
         (upper_trans (opposite a) (opposite b) (opposite c) ha hb hc (subst NN (sym (det_opposite a b)) h) (subst NN (sym (det_opposite b c)) k));
     sum = λ a b ha hb. subst Upper (λ i. (
-        identity O L (a.0 ∷ b.0 ∷ []) (neg' (var 0) +' neg' (var 1)) (neg' (var 0 +' var 1)) tt i,
-        identity O L (a.1 ∷ b.1 ∷ []) (neg' (var 0) +' neg' (var 1)) (neg' (var 0 +' var 1)) tt i,
-      )) (upper_sum (opposite a) (opposite b) ha hb);
+      identity O L (a.0 ∷ b.0 ∷ []) (neg' (var 0) +' neg' (var 1)) (neg' (var 0 +' var 1)) tt i,
+      identity O L (a.1 ∷ b.1 ∷ []) (neg' (var 0) +' neg' (var 1)) (neg' (var 0 +' var 1)) tt i,
+    )) (upper_sum (opposite a) (opposite b) ha hb);
   }
 
   -- the opposite of a vector is in the other half
   pub upper_flips : (v : R × R) → Upper v → Lower (opposite v)
   upper_flips v h =
       subst Upper (λ i. (identity O L (v.0 ∷ []) (var 0) (neg' (neg' (var 0))) tt i, identity O L (v.1 ∷ []) (var 0) (neg' (neg' (var 0))) tt i)) h
+
   pub lower_flips : (v : R × R) → Lower v → Upper (opposite v)
   lower_flips v h = h
 
@@ -147,24 +146,27 @@ module _ {R : Type 0} (O : Ops R) (L : IsRing O) {P : R → Type 0} (Q : IsOrder
   -- the sum of both parts of a list
   pub total_both : (x y : List (R × R)) → total (x ++ y) ≡ both (total x) (total y)
   total_both [] y = λ i. (
-      identity O L ((total y).0 ∷ []) (var 0) (int' (pos 0) +' var 0) tt i,
-      identity O L ((total y).1 ∷ []) (var 0) (int' (pos 0) +' var 0) tt i,
-    )
+    identity O L ((total y).0 ∷ []) (var 0) (int' (pos 0) +' var 0) tt i,
+    identity O L ((total y).1 ∷ []) (var 0) (int' (pos 0) +' var 0) tt i,
+  )
   total_both (v ∷ x) y = ap (both v) (total_both x y) ∙ λ i. (
-      identity O L (v.0 ∷ (total x).0 ∷ (total y).0 ∷ []) (var 0 +' (var 1 +' var 2)) (var 0 +' var 1 +' var 2) tt i,
-      identity O L (v.1 ∷ (total x).1 ∷ (total y).1 ∷ []) (var 0 +' (var 1 +' var 2)) (var 0 +' var 1 +' var 2) tt i,
-    )
+    identity O L (v.0 ∷ (total x).0 ∷ (total y).0 ∷ []) (var 0 +' (var 1 +' var 2)) (var 0 +' var 1 +' var 2) tt i,
+    identity O L (v.1 ∷ (total x).1 ∷ (total y).1 ∷ []) (var 0 +' (var 1 +' var 2)) (var 0 +' var 1 +' var 2) tt i,
+  )
 
   -- ---- the determinant of sums
   pub det_none_left : (v : R × R) → det none v ≡ num_of (pos 0)
   det_none_left v = identity O L (v.0 ∷ v.1 ∷ []) (determinant expr (int' (pos 0), int' (pos 0)) (var 0, var 1)) (int' (pos 0)) tt
+
   pub det_none_right : (v : R × R) → det v none ≡ num_of (pos 0)
   det_none_right v = identity O L (v.0 ∷ v.1 ∷ []) (determinant expr (var 0, var 1) (int' (pos 0), int' (pos 0))) (int' (pos 0)) tt
+
   pub det_both_left : (u v w : R × R) → det (both u v) w ≡ det u w ⊕ det v w
   det_both_left u v w =
       identity O L (u.0 ∷ u.1 ∷ v.0 ∷ v.1 ∷ w.0 ∷ w.1 ∷ [])
       (determinant expr (var 0 +' var 2, var 1 +' var 3) (var 4, var 5))
       (determinant expr (var 0, var 1) (var 4, var 5) +' determinant expr (var 2, var 3) (var 4, var 5)) tt
+
   pub det_both_right : (u v w : R × R) → det w (both u v) ≡ det w u ⊕ det w v
   det_both_right u v w =
       identity O L (u.0 ∷ u.1 ∷ v.0 ∷ v.1 ∷ w.0 ∷ w.1 ∷ [])
@@ -230,6 +232,7 @@ module _ {R : Type 0} (O : Ops R) (L : IsRing O) {P : R → Type 0} (Q : IsOrder
   -- det(y, w) ≥ 0, that is det(w, y) ≤ 0
   abbrev Before : R × R → R × R → Type 0
   Before y w = NN (det y w)
+
   abbrev After : R × R → R × R → Type 0
   After y w = NN (det w y)
 
@@ -256,9 +259,9 @@ module _ {R : Type 0} (O : Ops R) (L : IsRing O) {P : R → Type 0} (Q : IsOrder
       later : After y w → (l : List (R × R)) → AllByRecursion H l → AllByRecursion (λ v. NN (det w v)) l → AllByRecursion (After y) l
       later h [] hs ks = tt
       later h (v ∷ l) hs ks = (
-          subst NN (turn v) (half.trans (opposite y) w v other all.0 hs.0 (subst NN (sym (turn w)) h) ks.0),
-          later h l hs.1 ks.1,
-        )
+        subst NN (turn v) (half.trans (opposite y) w v other all.0 hs.0 (subst NN (sym (turn w)) h) ks.0),
+        later h l hs.1 ks.1,
+      )
         where
           turn : (u : R × R) → det (opposite y) u ≡ det u y
           turn u = identity O L (u.0 ∷ u.1 ∷ y.0 ∷ y.1 ∷ []) (determinant expr (neg' (var 2), neg' (var 3)) (var 0, var 1)) (determinant expr (var 0, var 1) (var 2, var 3)) tt
@@ -273,18 +276,18 @@ module _ {R : Type 0} (O : Ops R) (L : IsRing O) {P : R → Type 0} (Q : IsOrder
   pub det_closed_second : (x y z : R × R) → both (both x y) z ≡ none → det y z ≡ det x y
   det_closed_second x y z e =
       let move : det y z ≡ det x y ⊕ det y (both (both x y) z) =
-          identity O L (x.0 ∷ x.1 ∷ y.0 ∷ y.1 ∷ z.0 ∷ z.1 ∷ [])
-          (determinant expr (var 2, var 3) (var 4, var 5))
-          (determinant expr (var 0, var 1) (var 2, var 3) +' determinant expr (var 2, var 3) (var 0 +' var 2 +' var 4, var 1 +' var 3 +' var 5)) tt in
+      identity O L (x.0 ∷ x.1 ∷ y.0 ∷ y.1 ∷ z.0 ∷ z.1 ∷ [])
+      (determinant expr (var 2, var 3) (var 4, var 5))
+      (determinant expr (var 0, var 1) (var 2, var 3) +' determinant expr (var 2, var 3) (var 0 +' var 2 +' var 4, var 1 +' var 3 +' var 5)) tt in
       move ∙ ap (λ v. det x y ⊕ det y v) e ∙ ap (λ t. det x y ⊕ t) (det_none_right y)
       ∙ identity O L (det x y ∷ []) (var 0 +' int' (pos 0)) (var 0) tt
 
   pub det_closed_third : (x y z : R × R) → both (both x y) z ≡ none → det z x ≡ det x y
   det_closed_third x y z e =
       let move : det z x ≡ det x y ⊕ det (both (both x y) z) x =
-          identity O L (x.0 ∷ x.1 ∷ y.0 ∷ y.1 ∷ z.0 ∷ z.1 ∷ [])
-          (determinant expr (var 4, var 5) (var 0, var 1))
-          (determinant expr (var 0, var 1) (var 2, var 3) +' determinant expr (var 0 +' var 2 +' var 4, var 1 +' var 3 +' var 5) (var 0, var 1)) tt in
+      identity O L (x.0 ∷ x.1 ∷ y.0 ∷ y.1 ∷ z.0 ∷ z.1 ∷ [])
+      (determinant expr (var 4, var 5) (var 0, var 1))
+      (determinant expr (var 0, var 1) (var 2, var 3) +' determinant expr (var 0 +' var 2 +' var 4, var 1 +' var 3 +' var 5) (var 0, var 1)) tt in
       move ∙ ap (λ v. det x y ⊕ det v x) e ∙ ap (λ t. det x y ⊕ t) (det_none_left x)
       ∙ identity O L (det x y ∷ []) (var 0 +' int' (pos 0)) (var 0) tt
 
@@ -346,10 +349,10 @@ module _ {R : Type 0} (O : Ops R) (L : IsRing O) {P : R → Type 0} (Q : IsOrder
           go : (l : List (R × R)) → Sorted (l ++ ((v ∷ y) ++ b)) → Sorted (l ++ (v ∷ y))
           go [] h = sorted_first (v ∷ y) b h
           go (u ∷ l) h = (
-              all_both (λ w. NN (det u w)) l (v ∷ y) (all_first (λ w. NN (det u w)) l ((v ∷ y) ++ b) h.0)
-              (all_first (λ w. NN (det u w)) (v ∷ y) b (all_second (λ w. NN (det u w)) l ((v ∷ y) ++ b) h.0)),
-              go l h.1,
-            )
+            all_both (λ w. NN (det u w)) l (v ∷ y) (all_first (λ w. NN (det u w)) l ((v ∷ y) ++ b) h.0)
+                (all_first (λ w. NN (det u w)) (v ∷ y) b (all_second (λ w. NN (det u w)) l ((v ∷ y) ++ b) h.0)),
+            go l h.1,
+          )
 
       y_b : NN (det (total (v ∷ y)) (total b))
       y_b = sorted_sums (v ∷ y) b (sorted_second x' ((v ∷ y) ++ b) sorted')
@@ -371,9 +374,9 @@ module _ {R : Type 0} (O : Ops R) (L : IsRing O) {P : R → Type 0} (Q : IsOrder
   -- in another order
   regroup : (a x y b : R × R) → both (both x y) (both b a) ≡ both a (both x (both y b))
   regroup a x y b = λ i. (
-      identity O L (a.0 ∷ x.0 ∷ y.0 ∷ b.0 ∷ []) (var 1 +' var 2 +' (var 3 +' var 0)) (var 0 +' (var 1 +' (var 2 +' var 3))) tt i,
-      identity O L (a.1 ∷ x.1 ∷ y.1 ∷ b.1 ∷ []) (var 1 +' var 2 +' (var 3 +' var 0)) (var 0 +' (var 1 +' (var 2 +' var 3))) tt i,
-    )
+    identity O L (a.0 ∷ x.0 ∷ y.0 ∷ b.0 ∷ []) (var 1 +' var 2 +' (var 3 +' var 0)) (var 0 +' (var 1 +' (var 2 +' var 3))) tt i,
+    identity O L (a.1 ∷ x.1 ∷ y.1 ∷ b.1 ∷ []) (var 1 +' var 2 +' (var 3 +' var 0)) (var 0 +' (var 1 +' (var 2 +' var 3))) tt i,
+  )
 
   -- two stretches and the rest of a closed list sum to zero
   pub closed_four : (l a x y b : List (R × R)) → l ≡ a ++ (x ++ (y ++ b)) → total l ≡ none → both (both (total x) (total y)) (both (total b) (total a)) ≡ none
@@ -382,26 +385,26 @@ module _ {R : Type 0} (O : Ops R) (L : IsRing O) {P : R → Type 0} (Q : IsOrder
   -- a closed list that turns through the upper half and then through the lower is in convex position
   pub halves_convex : (U W : List (R × R)) → AllByRecursion Upper U → Sorted U → AllByRecursion Lower W → Sorted W → total (U ++ W) ≡ none → InConvexPosition (U ++ W)
   halves_convex U W all sorted all' sorted' closed a x y b e = elim (meet U W a (x ++ (y ++ b)) e) [
-      | inl h ↦ inner_second W h.0 (subst Sorted h.2 sorted')
-      | inr h ↦ elim (meet h.0 W x (y ++ b) (sym h.2)) [
-          | inl k ↦
-              subst (λ v. NN (det v (total y))) (sym (ap total k.1 ∙ total_both h.0 k.0))
-              (turn_before Upper Lower upper_half lower_half lower_flips a h.0 k.0 y b
-              (subst (AllByRecursion Upper) h.1 all) (subst Sorted h.1 sorted)
-              (subst (AllByRecursion Lower) k.2 all') (subst Sorted k.2 sorted')
-              (ap (λ v. both (both v (total y)) (both (total b) (total a))) (sym (ap total k.1 ∙ total_both h.0 k.0)) ∙ closed_four (U ++ W) a x y b e closed))
-          | inr k ↦ elim (meet k.0 W y b (sym k.2)) [
-              | inl j ↦
-                  subst (λ v. NN (det (total x) v)) (sym (ap total j.1 ∙ total_both k.0 j.0))
-                  (turn_after Upper Lower upper_half lower_half upper_flips a x k.0 j.0 b
-                  (subst (AllByRecursion Upper) (h.1 ∙ ap (λ z. a ++ z) k.1) all) (subst Sorted (h.1 ∙ ap (λ z. a ++ z) k.1) sorted)
-                  (subst (AllByRecursion Lower) j.2 all') (subst Sorted j.2 sorted')
-                  (ap (λ v. both (both (total x) v) (both (total b) (total a))) (sym (ap total j.1 ∙ total_both k.0 j.0)) ∙ closed_four (U ++ W) a x y b e closed))
-              | inr j ↦
-                  inner_first j.0 (subst Sorted (h.1 ∙ ap (λ z. a ++ z) (k.1 ∙ ap (λ z. x ++ z) j.1)) sorted)
-            ]
-        ]
+    | inl h ↦ inner_second W h.0 (subst Sorted h.2 sorted')
+    | inr h ↦ elim (meet h.0 W x (y ++ b) (sym h.2)) [
+      | inl k ↦
+          subst (λ v. NN (det v (total y))) (sym (ap total k.1 ∙ total_both h.0 k.0))
+          (turn_before Upper Lower upper_half lower_half lower_flips a h.0 k.0 y b
+          (subst (AllByRecursion Upper) h.1 all) (subst Sorted h.1 sorted)
+          (subst (AllByRecursion Lower) k.2 all') (subst Sorted k.2 sorted')
+          (ap (λ v. both (both v (total y)) (both (total b) (total a))) (sym (ap total k.1 ∙ total_both h.0 k.0)) ∙ closed_four (U ++ W) a x y b e closed))
+      | inr k ↦ elim (meet k.0 W y b (sym k.2)) [
+        | inl j ↦
+            subst (λ v. NN (det (total x) v)) (sym (ap total j.1 ∙ total_both k.0 j.0))
+            (turn_after Upper Lower upper_half lower_half upper_flips a x k.0 j.0 b
+            (subst (AllByRecursion Upper) (h.1 ∙ ap (λ z. a ++ z) k.1) all) (subst Sorted (h.1 ∙ ap (λ z. a ++ z) k.1) sorted)
+            (subst (AllByRecursion Lower) j.2 all') (subst Sorted j.2 sorted')
+            (ap (λ v. both (both (total x) v) (both (total b) (total a))) (sym (ap total j.1 ∙ total_both k.0 j.0)) ∙ closed_four (U ++ W) a x y b e closed))
+        | inr j ↦
+            inner_first j.0 (subst Sorted (h.1 ∙ ap (λ z. a ++ z) (k.1 ∙ ap (λ z. x ++ z) j.1)) sorted)
+      ]
     ]
+  ]
     where
       prefix : (c d e' : List (R × R)) → Sorted (c ++ (d ++ e')) → Sorted (c ++ d)
       prefix c d e' h = sorted_first (c ++ d) e' (subst Sorted (sym (append_assoc c d e')) h)
@@ -415,38 +418,38 @@ module _ {R : Type 0} (O : Ops R) (L : IsRing O) {P : R → Type 0} (Q : IsOrder
   -- a sum doesn't depend on the order of its parts
   pub total_turned : (p q : List (R × R)) → total (q ++ p) ≡ total (p ++ q)
   total_turned p q = total_both q p ∙ (λ i. (
-      identity O L ((total p).0 ∷ (total q).0 ∷ []) (var 1 +' var 0) (var 0 +' var 1) tt i,
-      identity O L ((total p).1 ∷ (total q).1 ∷ []) (var 1 +' var 0) (var 0 +' var 1) tt i,
-    )) ∙ sym (total_both p q)
+    identity O L ((total p).0 ∷ (total q).0 ∷ []) (var 1 +' var 0) (var 0 +' var 1) tt i,
+    identity O L ((total p).1 ∷ (total q).1 ∷ []) (var 1 +' var 0) (var 0 +' var 1) tt i,
+  )) ∙ sym (total_both p q)
 
   -- a closed list in convex position that begins elsewhere
   pub convex_turned : (p q : List (R × R)) → total (p ++ q) ≡ none → InConvexPosition (p ++ q) → InConvexPosition (q ++ p)
   convex_turned p q closed convex a x y b e = elim (meet q p a (x ++ (y ++ b)) e) [
-      | inl h ↦ convex h.0 x y (b ++ q) (ap (λ z. z ++ q) h.2 ∙ move h.0)
-      | inr h ↦ elim (meet h.0 p x (y ++ b) (sym h.2)) [
-          | inl k ↦
-              -- the boundary lies in x
-              subst NN (det_closed_second (total x) (total y) (both (total b) (total a)) (closed_four (q ++ p) a x y b e closed'))
-              (subst (λ v. NN (det (total y) v)) (total_both b a)
-              (convex k.0 y (b ++ a) h.0 (
-                ap (λ z. p ++ z) h.1 ∙ ap (λ z. z ++ (a ++ h.0)) k.2 ∙ append_assoc k.0 (y ++ b) (a ++ h.0) ∙ ap (λ z. k.0 ++ z) (append_assoc y b (a ++ h.0) ∙ ap (λ z. y ++ z) (sym (append_assoc b a h.0)))
-              )))
-          | inr k ↦ elim (meet k.0 p y b (sym k.2)) [
-              | inl j ↦
-                  -- the boundary lies in y
-                  subst NN (det_closed_third (total x) (total y) (both (total b) (total a)) (closed_four (q ++ p) a x y b e closed'))
-                  (subst (λ v. NN (det v (total x))) (total_both b a)
-                  (convex j.0 (b ++ a) x k.0 (
-                    ap (λ z. p ++ z) (h.1 ∙ ap (λ z. a ++ z) k.1) ∙ ap (λ z. z ++ (a ++ (x ++ k.0))) j.2 ∙ append_assoc j.0 b (a ++ (x ++ k.0))
-                    ∙ ap (λ z. j.0 ++ z) (sym (append_assoc b a (x ++ k.0)))
-                  )))
-              | inr j ↦
-                  convex (p ++ a) x y j.0 (
-                    ap (λ z. p ++ z) (h.1 ∙ ap (λ z. a ++ z) (k.1 ∙ ap (λ z. x ++ z) j.1)) ∙ sym (append_assoc p a (x ++ (y ++ j.0)))
-                  )
-            ]
-        ]
+    | inl h ↦ convex h.0 x y (b ++ q) (ap (λ z. z ++ q) h.2 ∙ move h.0)
+    | inr h ↦ elim (meet h.0 p x (y ++ b) (sym h.2)) [
+      | inl k ↦
+          -- the boundary lies in x
+          subst NN (det_closed_second (total x) (total y) (both (total b) (total a)) (closed_four (q ++ p) a x y b e closed'))
+          (subst (λ v. NN (det (total y) v)) (total_both b a)
+          (convex k.0 y (b ++ a) h.0 (
+          ap (λ z. p ++ z) h.1 ∙ ap (λ z. z ++ (a ++ h.0)) k.2 ∙ append_assoc k.0 (y ++ b) (a ++ h.0) ∙ ap (λ z. k.0 ++ z) (append_assoc y b (a ++ h.0) ∙ ap (λ z. y ++ z) (sym (append_assoc b a h.0)))
+          )))
+      | inr k ↦ elim (meet k.0 p y b (sym k.2)) [
+        | inl j ↦
+            -- the boundary lies in y
+            subst NN (det_closed_third (total x) (total y) (both (total b) (total a)) (closed_four (q ++ p) a x y b e closed'))
+            (subst (λ v. NN (det v (total x))) (total_both b a)
+            (convex j.0 (b ++ a) x k.0 (
+            ap (λ z. p ++ z) (h.1 ∙ ap (λ z. a ++ z) k.1) ∙ ap (λ z. z ++ (a ++ (x ++ k.0))) j.2 ∙ append_assoc j.0 b (a ++ (x ++ k.0))
+            ∙ ap (λ z. j.0 ++ z) (sym (append_assoc b a (x ++ k.0)))
+            )))
+        | inr j ↦
+            convex (p ++ a) x y j.0 (
+            ap (λ z. p ++ z) (h.1 ∙ ap (λ z. a ++ z) (k.1 ∙ ap (λ z. x ++ z) j.1)) ∙ sym (append_assoc p a (x ++ (y ++ j.0)))
+            )
+      ]
     ]
+  ]
     where
       closed' : total (q ++ p) ≡ none
       closed' = total_turned p q ∙ closed
@@ -457,35 +460,35 @@ module _ {R : Type 0} (O : Ops R) (L : IsRing O) {P : R → Type 0} (Q : IsOrder
   -- two vectors in a list replaced by their sum
   pub total_merged : (p q : List (R × R)) (u v : R × R) → total (p ++ (u ∷ v ∷ q)) ≡ total (p ++ (both u v ∷ q))
   total_merged p q u v = total_both p (u ∷ v ∷ q) ∙ ap (both (total p)) (λ i. (
-      identity O L (u.0 ∷ v.0 ∷ (total q).0 ∷ []) (var 0 +' (var 1 +' var 2)) (var 0 +' var 1 +' var 2) tt i,
-      identity O L (u.1 ∷ v.1 ∷ (total q).1 ∷ []) (var 0 +' (var 1 +' var 2)) (var 0 +' var 1 +' var 2) tt i,
-    )) ∙ sym (total_both p (both u v ∷ q))
+    identity O L (u.0 ∷ v.0 ∷ (total q).0 ∷ []) (var 0 +' (var 1 +' var 2)) (var 0 +' var 1 +' var 2) tt i,
+    identity O L (u.1 ∷ v.1 ∷ (total q).1 ∷ []) (var 0 +' (var 1 +' var 2)) (var 0 +' var 1 +' var 2) tt i,
+  )) ∙ sym (total_both p (both u v ∷ q))
 
   pub convex_merged : (p q : List (R × R)) (u v : R × R) → InConvexPosition (p ++ (u ∷ v ∷ q)) → InConvexPosition (p ++ (both u v ∷ q))
   convex_merged p q u v convex a x y b e = elim (place p (both u v) q a (x ++ (y ++ b)) e) [
-      | inl h ↦ convex (p ++ (u ∷ v ∷ h.0)) x y b (ap (λ z. p ++ (u ∷ v ∷ z)) h.2 ∙ sym (append_assoc p (u ∷ v ∷ h.0) (x ++ (y ++ b))))
-      | inr h ↦ elim (place h.0 (both u v) q x (y ++ b) (sym h.2)) [
-          | inl k ↦
-              subst (λ w. NN (det w (total y))) (total_merged h.0 k.0 u v ∙ ap total (sym k.1))
-              (convex a (h.0 ++ (u ∷ v ∷ k.0)) y b (
-                ap (λ z. z ++ (u ∷ v ∷ q)) h.1 ∙ append_assoc a h.0 (u ∷ v ∷ q)
-                ∙ ap (λ z. a ++ z) (ap (λ z. h.0 ++ (u ∷ v ∷ z)) k.2 ∙ sym (append_assoc h.0 (u ∷ v ∷ k.0) (y ++ b)))
-              ))
-          | inr k ↦ elim (place k.0 (both u v) q y b (sym k.2)) [
-              | inl j ↦
-                  subst (λ w. NN (det (total x) w)) (total_merged k.0 j.0 u v ∙ ap total (sym j.1))
-                  (convex a x (k.0 ++ (u ∷ v ∷ j.0)) b (
-                    ap (λ z. z ++ (u ∷ v ∷ q)) (h.1 ∙ ap (λ z. a ++ z) k.1) ∙ append_assoc a (x ++ k.0) (u ∷ v ∷ q)
-                    ∙ ap (λ z. a ++ z) (append_assoc x k.0 (u ∷ v ∷ q) ∙ ap (λ z. x ++ z) (ap (λ z. k.0 ++ (u ∷ v ∷ z)) j.2 ∙ sym (append_assoc k.0 (u ∷ v ∷ j.0) b)))
-                  ))
-              | inr j ↦
-                  convex a x y (j.0 ++ (u ∷ v ∷ q)) (
-                    ap (λ z. z ++ (u ∷ v ∷ q)) (h.1 ∙ ap (λ z. a ++ z) (k.1 ∙ ap (λ z. x ++ z) j.1)) ∙ append_assoc a (x ++ (y ++ j.0)) (u ∷ v ∷ q)
-                    ∙ ap (λ z. a ++ z) (append_assoc x (y ++ j.0) (u ∷ v ∷ q) ∙ ap (λ z. x ++ z) (append_assoc y j.0 (u ∷ v ∷ q)))
-                  )
-            ]
-        ]
+    | inl h ↦ convex (p ++ (u ∷ v ∷ h.0)) x y b (ap (λ z. p ++ (u ∷ v ∷ z)) h.2 ∙ sym (append_assoc p (u ∷ v ∷ h.0) (x ++ (y ++ b))))
+    | inr h ↦ elim (place h.0 (both u v) q x (y ++ b) (sym h.2)) [
+      | inl k ↦
+          subst (λ w. NN (det w (total y))) (total_merged h.0 k.0 u v ∙ ap total (sym k.1))
+          (convex a (h.0 ++ (u ∷ v ∷ k.0)) y b (
+          ap (λ z. z ++ (u ∷ v ∷ q)) h.1 ∙ append_assoc a h.0 (u ∷ v ∷ q)
+          ∙ ap (λ z. a ++ z) (ap (λ z. h.0 ++ (u ∷ v ∷ z)) k.2 ∙ sym (append_assoc h.0 (u ∷ v ∷ k.0) (y ++ b)))
+          ))
+      | inr k ↦ elim (place k.0 (both u v) q y b (sym k.2)) [
+        | inl j ↦
+            subst (λ w. NN (det (total x) w)) (total_merged k.0 j.0 u v ∙ ap total (sym j.1))
+            (convex a x (k.0 ++ (u ∷ v ∷ j.0)) b (
+            ap (λ z. z ++ (u ∷ v ∷ q)) (h.1 ∙ ap (λ z. a ++ z) k.1) ∙ append_assoc a (x ++ k.0) (u ∷ v ∷ q)
+            ∙ ap (λ z. a ++ z) (append_assoc x k.0 (u ∷ v ∷ q) ∙ ap (λ z. x ++ z) (ap (λ z. k.0 ++ (u ∷ v ∷ z)) j.2 ∙ sym (append_assoc k.0 (u ∷ v ∷ j.0) b)))
+            ))
+        | inr j ↦
+            convex a x y (j.0 ++ (u ∷ v ∷ q)) (
+            ap (λ z. z ++ (u ∷ v ∷ q)) (h.1 ∙ ap (λ z. a ++ z) (k.1 ∙ ap (λ z. x ++ z) j.1)) ∙ append_assoc a (x ++ (y ++ j.0)) (u ∷ v ∷ q)
+            ∙ ap (λ z. a ++ z) (append_assoc x (y ++ j.0) (u ∷ v ∷ q) ∙ ap (λ z. x ++ z) (append_assoc y j.0 (u ∷ v ∷ q)))
+            )
+      ]
     ]
+  ]
 
   -- ---- a list that rises once, at its seam
   -- a nonzero vector is in one of the halves
@@ -578,7 +581,7 @@ module _ {R : Type 0} (O : Ops R) (L : IsRing O) {P : R → Type 0} (Q : IsOrder
   rising_convex u l up nonzero chain closed =
       let h : Halves (u ∷ l) = halves_of u l up nonzero chain in
       let turns : Chain (λ a b. NN (det a b)) (h.U ++ h.W) =
-          subst (Chain (λ a b. NN (det a b))) h.parts (chain_map Goes (λ a b. NN (det a b)) (λ a b g. g.0) (u ∷ l) chain) in
+      subst (Chain (λ a b. NN (det a b))) h.parts (chain_map Goes (λ a b. NN (det a b)) (λ a b g. g.0) (u ∷ l) chain) in
       subst InConvexPosition (sym h.parts)
       (halves_convex h.U h.W
       h.upper (chain_sorted Upper upper_half h.U h.upper (chain_first (λ a b. NN (det a b)) h.U h.W turns))

@@ -61,9 +61,9 @@ reading_whole before after r read_faults.Memory cause line e h q = absurd (cc)
 -- and it is what is expected
 expected_long : (X : Type 0) (command : Command) (input : List ℕ) → 1048576 < length input → IsExpected {X = X} command input (Err (refusals.File 0 0))
 expected_long X Check input long = (
-    λ file accepted. absurd (omega (arith, accepted.text_of.short, long)),
-    λ cause line refused. at cause line refused,
-  )
+  λ file accepted. absurd (omega (arith, accepted.text_of.short, long)),
+  λ cause line refused. at cause line refused,
+)
   where
     at : (cause line : ℕ) → IsRefused input cause line → (refusals.File 0 0 ≡ refusals.File cause line) ⊎ IsFailure (refusals.File 0 0)
     at cause line (too_long _ c l) = inl (ap (λ k. refusals.File k 0) (sym c) ∙ ap (refusals.File cause) (sym l))
@@ -95,9 +95,9 @@ input_expected command (Some bytes) input r known h = subst (λ b. IsExpected co
 pub check_expected : (X : Type 0) (command : Command) (input : List ℕ) (refusal : Refusal) → ((file : Content) → IsAccepted input file → refusal ≡ refusals.Memory)
     → ((cause line : ℕ) → IsRefused input cause line → (refusal ≡ refusals.File cause line) ⊎ (refusal ≡ refusals.Memory)) → IsExpected {X = X} command input (Err refusal)
 check_expected X Check input refusal accepted refused = (
-    λ file h. subst IsFailure (sym (accepted file h)) tt,
-    λ cause line h. elim (refused cause line h) [ | inl e ↦ inl e | inr e ↦ inr (subst IsFailure (sym e) tt) ],
-  )
+  λ file h. subst IsFailure (sym (accepted file h)) tt,
+  λ cause line h. elim (refused cause line h) [ inl e ↦ inl e | inr e ↦ inr (subst IsFailure (sym e) tt) ],
+)
 
 pub check_done : {X : Type 0} (command : Command) (input : List ℕ) (x : X) → ((cause line : ℕ) → IsRefused input cause line → ⊥) → IsExpected command input (Ok x)
 check_done Check input x refused = (λ file h. tt, refused)

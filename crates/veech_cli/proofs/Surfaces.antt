@@ -26,9 +26,9 @@ pub at_text : (input : List ℕ) → length input ≤ 1048576 → (fault : TextF
     → (cause line : ℕ) → IsRefused input cause line → IsFor cause line (refusal_of_text fault)
 at_text input short fault accepted refused cause line (too_long long _ _) = absurd (omega (arith, short, long))
 at_text input short fault accepted refused cause line (text_refused _ h) = elim (refused cause line h) [
-    | inl e ↦ inl (ap refusal_of_text e)
-    | inr e ↦ inr (ap refusal_of_text e)
-  ]
+  | inl e ↦ inl (ap refusal_of_text e)
+  | inr e ↦ inr (ap refusal_of_text e)
+]
 at_text input short fault accepted refused cause line (not_glued file t h) = inr (ap refusal_of_text (accepted file t.spelled t.limits))
 
 -- where the polygons weren't glued, the refusal holds of the input

@@ -19,12 +19,12 @@ numbers_text numbers = flat_map (λ n. codes " " ++ natural_text n) numbers
 abbrev pub check_text : List Half → List ℕ → ℕ → List ℕ
 check_text halves turns genus =
     concat (
-      codes "valid\ntriangles " ∷ natural_text (length halves / 3)
-      ∷ codes "\nedges " ∷ natural_text (edge_count halves)
-      ∷ codes "\nvertices " ∷ natural_text (length turns)
-      ∷ codes "\ngenus " ∷ natural_text genus
-      ∷ codes "\ncones" ∷ numbers_text turns
-      ∷ codes "\nend\n" ∷ []
+    codes "valid\ntriangles " ∷ natural_text (length halves / 3)
+    ∷ codes "\nedges " ∷ natural_text (edge_count halves)
+    ∷ codes "\nvertices " ∷ natural_text (length turns)
+    ∷ codes "\ngenus " ∷ natural_text genus
+    ∷ codes "\ncones" ∷ numbers_text turns
+    ∷ codes "\nend\n" ∷ []
     )
 
 -- the names of the causes of a refused file, by their numbers

@@ -35,7 +35,12 @@ fn counts(alloc: Global, tri: &Tri, cones: &Cones) -> Result<Vec<u8>, AllocError
     ensures { IfOk result (λ text. text.items ≡ check_text tri.now.halves cones.now.turns.items cones.now.genus) }
 {
     let mut text = Vec::new(alloc);
-    put_count(alloc, &mut text, b"valid\ntriangles ", u64::from(tri.triangles()))?;
+    put_count(
+        alloc,
+        &mut text,
+        b"valid\ntriangles ",
+        u64::from(tri.triangles()),
+    )?;
     put_count(alloc, &mut text, b"\nedges ", u64::from(edges(tri)))?;
     put_count(alloc, &mut text, b"\nvertices ", cones.turns.len() as u64)?;
     put_count(alloc, &mut text, b"\ngenus ", u64::from(cones.genus))?;

@@ -40,12 +40,10 @@ const DOUBLE_PENTAGON: &[u8] =
     b"flat 1\nfield 5\npolygon 2,0 0,2 -2,-1+1r 1-1r,1-1r -1+1r,-2\npolygon -2,0 0,-2 2,1-1r -1+1r,-1+1r 1-1r,2\nglue 0.0 1.0\nglue 0.1 1.1\nglue 0.2 1.2\nglue 0.3 1.3\nglue 0.4 1.4\nend\n";
 
 /// What `check` writes for a torus.
-const TORUS_COUNTS: &[u8] =
-    b"valid\ntriangles 2\nedges 3\nvertices 1\ngenus 1\ncones 1\nend\n";
+const TORUS_COUNTS: &[u8] = b"valid\ntriangles 2\nedges 3\nvertices 1\ngenus 1\ncones 1\nend\n";
 
 /// What it writes for a surface of genus 2 with one cone point, cut into six triangles.
-const ONE_CONE: &[u8] =
-    b"valid\ntriangles 6\nedges 9\nvertices 1\ngenus 2\ncones 3\nend\n";
+const ONE_CONE: &[u8] = b"valid\ntriangles 6\nedges 9\nvertices 1\ngenus 2\ncones 3\nend\n";
 
 /// A torus of two squares in a row, both lattice points marked.
 const TWO_SQUARES: &[u8] =
@@ -426,7 +424,11 @@ fn refuses_every_proper_prefix(rt: HostRuntime) -> Result<(), Fail> {
     let mut line = 1;
     let mut at_start = true;
     for (length, byte) in TORUS.iter().enumerate() {
-        let (cause, name) = if at_start { (1, "NoLine") } else { (2, "CutLine") };
+        let (cause, name) = if at_start {
+            (1, "NoLine")
+        } else {
+            (2, "CutLine")
+        };
         let text = format!(in alloc; "fault file {cause} {line} {name}\n")?;
         let (ended, written) = run(alloc, &["check"], &TORUS[..length], moving(4096))?;
         assert_eq!(rt; ended, 3);

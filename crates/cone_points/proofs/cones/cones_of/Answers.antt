@@ -1,4 +1,4 @@
-use Rattle.std.proofs.Common.{◌≡◌, ℕ, ◌+◌, ◌-◌, ◌*◌, ◌/◌, ◌≤◌, List, length, sym, ap, subst, ◌∙◌, arith}
+use Rattle.std.proofs.Common.{◌≡◌, ◌+◌, ◌-◌, ◌*◌, ◌/◌, length, sym, ap, subst, ◌∙◌, arith}
 use Rattle.quad_field.specs.FieldNumber.{IsFieldNumber}
 use Rattle.cone_points.specs.Angles.{IsGenus, sum_of}
 use Rattle.cone_points.specs.Walks.{TellsUpper}

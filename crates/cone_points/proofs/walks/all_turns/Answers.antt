@@ -1,7 +1,7 @@
-use Rattle.std.proofs.Common.{◌≡◌, ℕ, ◌+◌, ◌∷◌, [], ◌++◌, List, Bool, false, replicate, get_or, length, sym, subst, ◌∙◌, arith}
+use Rattle.std.proofs.Common.{◌≡◌, ℕ, [], false, replicate, length, sym, subst, ◌∙◌, arith}
 use Rattle.std.proofs.lemmas.List.{length-replicate}
 use Rattle.tri_core.proofs.Searches.{unmarked_all}
-use Rattle.cone_points.specs.Walks.{IsRound, AreTurnsBelow}
+use Rattle.cone_points.specs.Walks.{IsRound}
 use Rattle.cone_points.proofs.Visits.{round_none, round_all}
 use Rattle.cone_points.proofs.walks.all_turns.Goals as goal
 

@@ -1,4 +1,3 @@
-use Rattle.std.proofs.Common.{◌≡◌, ℕ, ◌<◌, false, length, get_or}
 use Rattle.cone_points.specs.Walks.{IsRound}
 use Rattle.cone_points.proofs.walks.all_turns.Given as goal
 

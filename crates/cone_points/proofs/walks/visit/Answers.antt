@@ -1,4 +1,4 @@
-use Rattle.std.proofs.Common.{◌≡◌, ℕ, ◌+◌, ◌∷◌, [], ◌++◌, List, length, sym, subst, arith}
+use Rattle.std.proofs.Common.{◌≡◌, ◌+◌, ◌∷◌, [], ◌++◌, length, sym, subst, arith}
 use Rattle.cone_points.specs.Walks.{IsRound}
 use Rattle.cone_points.proofs.Visits.{IsWalked, round_kept, round_more}
 use Rattle.cone_points.proofs.walks.visit.Goals as goal

@@ -1,6 +1,5 @@
-use Rattle.std.proofs.Common.{◌≡◌, ℕ, ◌+◌, ◌<◌, Bool, true, false, not, ◌&&◌, length, get_or, set, sym, ap, subst, ◌∙◌, arith}
+use Rattle.std.proofs.Common.{◌+◌, ◌<◌, true, false, not, ◌&&◌, length, get_or, set, sym, ap, subst, ◌∙◌, arith}
 use Rattle.cone_points.specs.Vertices.{turned}
-use Rattle.cone_points.specs.Walks.{rises_by}
 use Rattle.cone_points.proofs.Numbers.{bit}
 use Rattle.cone_points.proofs.Walking.{IsWalk, walk_step, walk_end, risen_most, unmarked_less}
 use Rattle.cone_points.proofs.walks.walk.Goals as goal

@@ -5,7 +5,7 @@ use Rattle.veech_cli.proofs.run.answer.Goals as goal
 pub returns-in-Ok-clause-expected : goal.returns-in-Ok-clause-expected
 returns-in-Ok-clause-expected g c = λ no_read no_write.
     done_answers c.args.command (g.S.Source.left c.args.source.now) (g.K.Sink.taken c.args.sink.now) (g.K.Sink.taken c.deliver.new.sink) c.in-Ok.text c.deliver.result _ _
-    c.in-Ok.ensures.expected c.deliver.ensures.delivered (λ e. elim (c.deliver.ensures.fault e) [ | inl k ↦ absurd (cc) | inr r ↦ r ]) no_write
+    c.in-Ok.ensures.expected c.deliver.ensures.delivered (λ e. elim (c.deliver.ensures.fault e) [ inl k ↦ absurd (cc) | inr r ↦ r ]) no_write
 
 pub returns-in-Err-clause-expected : goal.returns-in-Err-clause-expected
 returns-in-Err-clause-expected g c = λ no_read no_write.
