@@ -146,7 +146,8 @@ fn glued(alloc: Global, some_base: bool, polygons: Vec<Polygon>, glues: Vec<Glue
     if text.len() > 1_048_576 {
         return Ok(None);
     }
-    if file.polygons.is_empty() || file.polygons.len() > 256 {
+    let count = file.polygons.len();
+    if count < 1 || count > 256 {
         return Ok(None);
     }
     if !are_polygons(file.polygons.as_slice()) {
