@@ -183,15 +183,15 @@ fn glues_the_square_torus(rt: HostRuntime) -> Result<(), Fail> {
     let polygons = polygons(rt.alloc(), &[SQUARE])?;
     let glues = lines(rt.alloc(), &[(0, 0, 0, 2), (0, 3, 0, 1)])?;
     let made = glued(rt.alloc(), false, polygons, glues)?;
-    let mut twins = 0;
+    let mut found = false;
     if let Some(Ok(surface)) = &made {
+        found = true;
         assert_eq!(rt; surface.polygons().len(), 1);
         for (e, twin) in [(0, 2), (1, 3), (2, 0), (3, 1)] {
             assert_eq!(rt; twin_of(surface, 0, e), Some((0, twin)), "at {e}");
-            twins += 1;
         }
     }
-    assert_eq!(rt; twins, 4);
+    assert!(rt; found);
     Ok(())
 }
 
