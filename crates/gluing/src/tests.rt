@@ -134,7 +134,12 @@ fn lines(alloc: Global, rows: &[Line]) -> Result<Vec<Glue>, AllocError> {
 }
 
 /// The gluing of a file over the field of √2, where it is within the limits.
-fn glued(alloc: Global, some_base: bool, polygons: Vec<Polygon>, glues: Vec<Glue>) -> Result<Option<Result<Glued, GlueFault>>, Fail> {
+fn glued(
+    alloc: Global,
+    some_base: bool,
+    polygons: Vec<Polygon>,
+    glues: Vec<Glue>,
+) -> Result<Option<Result<Glued, GlueFault>>, Fail> {
     let f = Field::make(2).ok_or("2 is square-free")?;
     let file = SurfaceFile {
         field: f.number(),
@@ -160,8 +165,18 @@ fn glued(alloc: Global, some_base: bool, polygons: Vec<Polygon>, glues: Vec<Glue
 }
 
 /// The cause and the line of the refusal, or none.
-fn refusal(alloc: Global, some_base: bool, rows: &[&[Side]], glues: &[Line]) -> Result<Option<(u8, u64)>, Fail> {
-    match glued(alloc, some_base, polygons(alloc, rows)?, lines(alloc, glues)?)? {
+fn refusal(
+    alloc: Global,
+    some_base: bool,
+    rows: &[&[Side]],
+    glues: &[Line],
+) -> Result<Option<(u8, u64)>, Fail> {
+    match glued(
+        alloc,
+        some_base,
+        polygons(alloc, rows)?,
+        lines(alloc, glues)?,
+    )? {
         Some(Ok(_)) => Ok(None),
         Some(Err(GlueFault::Bad { cause, line })) => Ok(Some((cause, line))),
         Some(Err(GlueFault::Memory)) => Ok(Some((0, 0))),
@@ -232,7 +247,11 @@ fn refuses_polygons(rt: HostRuntime) -> Result<(), Fail> {
         // A turn to the right.
         (&[&[(2, 0), (-1, 1), (1, 1), (-2, 0), (0, -2)]], 17, 3),
         // The first polygon that isn't proper counts, and not the least cause.
-        (&[&[(0, 1), (1, 0), (-1, -1)], &[(1, 0), (0, 1), (-1, 0)]], 17, 3),
+        (
+            &[&[(0, 1), (1, 0), (-1, -1)], &[(1, 0), (0, 1), (-1, 0)]],
+            17,
+            3,
+        ),
     ];
     for (rows, cause, line) in table {
         assert_eq!(rt; refusal(rt.alloc(), false, rows, &[])?, Some((cause, line)));
@@ -251,7 +270,12 @@ fn refuses_glue_lines(rt: HostRuntime) -> Result<(), Fail> {
         // At one line the least cause counts.
         (&[SQUARE], &[(0, 0, 0, 2), (0, 0, 0, 1)], 18, 5),
         (&[SQUARE], &[(0, 0, 0, 2)], 20, 3),
-        (&[SQUARE, SQUARE], &[(0, 0, 0, 2), (0, 1, 0, 3), (1, 0, 1, 2)], 20, 4),
+        (
+            &[SQUARE, SQUARE],
+            &[(0, 0, 0, 2), (0, 1, 0, 3), (1, 0, 1, 2)],
+            20,
+            4,
+        ),
         (
             &[SQUARE, SQUARE],
             &[(0, 0, 0, 2), (0, 1, 0, 3), (1, 0, 1, 2), (1, 1, 1, 3)],
@@ -260,8 +284,14 @@ fn refuses_glue_lines(rt: HostRuntime) -> Result<(), Fail> {
         ),
     ];
     for (rows, glues, cause, line) in table {
-        assert_eq!(rt; refusal(rt.alloc(), false, rows, glues)?, Some((cause, line)));
-        assert_eq!(rt; refusal(rt.alloc(), true, rows, glues)?, Some((cause, line + 1)));
+        assert_eq!(rt;
+            refusal(rt.alloc(), false, rows, glues)?,
+            Some((cause, line))
+        );
+        assert_eq!(rt;
+            refusal(rt.alloc(), true, rows, glues)?,
+            Some((cause, line + 1))
+        );
     }
     Ok(())
 }
