@@ -1,8 +1,7 @@
-use Rattle.std.proofs.Common.{◌≡◌, ◌≤◌, List, length, map, sym, ap, subst, arith}
+use Rattle.std.proofs.Common.{List, sym, subst, arith}
 use Rattle.std.specs.List.{AllByRecursion}
 use Rattle.quad_field.specs.FieldNumber.{IsFieldNumber}
 use Rattle.surface_text.specs.declared.file.Polygon.{Polygon}
-use Rattle.surface_text.specs.declared.file.Glue.{Glue}
 use Rattle.surface_text.specs.Limits.{IsPolygon, NamesSides}
 use Rattle.gluing.specs.Parts.{sides_of}
 use Rattle.gluing.proofs.Convex.{length-sides}
