@@ -172,12 +172,7 @@ line_holds file Unpaired k proper h c = absurd c
 line_holds file ManyTriangles k proper h c = absurd c
 line_holds file Apart k proper h c = absurd c
 
--- the places of a cause
-abbrev pub places_of : Content → Cause → ℕ
-places_of file Twice = length file.glues
-places_of file NotOpposite = length file.glues
-places_of file cause = length file.polygons
-
+-- a place is that of a polygon or of a glue line
 pub place_below : (file : Content) (cause : Cause) (p : ℕ) → Holds file cause p → p < length file.polygons + length file.glues
 place_below file NotClosed p h = omega (arith, h.0.0)
 place_below file Flat p h = omega (arith, h.0.0)
