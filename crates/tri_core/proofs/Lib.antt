@@ -6,3 +6,4 @@ pub mod Stores
 pub mod Carried
 pub mod Links
 pub mod Quadrilaterals
+pub mod Triangles
