@@ -6,7 +6,7 @@ use Rattle.plane.specs.declared.vec2.Vec2.{Vec2}
 use Rattle.tri_core.specs.declared.half.Half.{Half}
 use Rattle.tri_core.specs.HalfEdges.{half_at, twin_at, triangle_of, next_of, previous_of, no_half}
 use Rattle.tri_core.specs.Slots.{cycled, number_after, IsOuter, AreApart, HasPairs, IsCarried, linked_back}
-use Rattle.tri_core.proofs.Moves.{AreFour, cycled-first, cycled-second, cycled-third, cycled-fourth, cycled-other, number_back, number_same, outer_four, number_injective, number_within}
+use Rattle.tri_core.proofs.Moves.{AreFour, cycled-first, cycled-second, cycled-third, cycled-fourth, cycled-other, number_back, number_same, outer_or_not, number_injective, number_within}
 use Rattle.tri_core.proofs.Stores.{AreSix, six, six_stores, six_stores-length, six_stores-h, six_stores-g, six_stores-n, six_stores-p, six_stores-q, six_stores-r, six_stores-other}
 
 -- a half-edge in its slot: its vector is kept, and its twin carried along
@@ -17,30 +17,6 @@ pub record IsSide (halves : List Half) (h g k : ℕ) (half : Half) : Type 0 wher
 -- the same, where the number is given by another name
 pub side_from : (halves : List Half) (h g k place : ℕ) (half : Half) → place ≡ k → half.vec ≡ (half_at halves place).vec → half.twin ≡ number_after h g (twin_at halves place) → IsSide halves h g k half
 side_from halves h g k place half e vec twin = subst (λ (m : ℕ). IsSide halves h g m half) e (record { vec = vec; twin = twin })
-
--- k is an outer side, or it isn't
-outer_or_not : (h g k : ℕ) → IsOuter h g k ⊎ ¬ (IsOuter h g k)
-outer_or_not h g k =
-    elim (cases_eq k (next_of h)) [
-      | inl e ↦ inl (inl e)
-      | inr a ↦ elim (cases_eq k (previous_of h)) [
-        | inl e ↦ inl (inr (inl e))
-        | inr b ↦ elim (cases_eq k (next_of g)) [
-          | inl e ↦ inl (inr (inr (inl e)))
-          | inr c ↦ elim (cases_eq k (previous_of g)) [
-            | inl e ↦ inl (inr (inr (inr e)))
-            | inr d ↦ inr (λ o. elim o [ inl e ↦ a e | inr o ↦ elim o [ inl e ↦ b e | inr o ↦ elim o [ inl e ↦ c e | inr e ↦ d e ] ] ])
-          ]
-        ]
-      ]
-    ]
-
--- h and g are no outer sides
-h_not_outer : (l h g : ℕ) → AreSix l h g (next_of h) (previous_of h) (next_of g) (previous_of g) → ¬ (IsOuter h g h)
-h_not_outer l h g s = λ o. elim o [ inl e ↦ s.h_n e | inr o ↦ elim o [ inl e ↦ s.h_p e | inr o ↦ elim o [ inl e ↦ s.h_q e | inr e ↦ s.h_r e ] ] ]
-
-g_not_outer : (l h g : ℕ) → AreSix l h g (next_of h) (previous_of h) (next_of g) (previous_of g) → ¬ (IsOuter h g g)
-g_not_outer l h g s = λ o. elim o [ inl e ↦ s.g_n e | inr o ↦ elim o [ inl e ↦ s.g_p e | inr o ↦ elim o [ inl e ↦ s.g_q e | inr e ↦ s.g_r e ] ] ]
 
 module _ (halves : List Half) (h g : ℕ) (apart : AreApart halves h g) (twin : twin_at halves h ≡ g) (back : twin_at halves g ≡ h)
     (x y a b c d : Half) (x_twin : x.twin ≡ g) (y_twin : y.twin ≡ h)

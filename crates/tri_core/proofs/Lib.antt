@@ -7,3 +7,4 @@ pub mod Carried
 pub mod Links
 pub mod Quadrilaterals
 pub mod Triangles
+pub mod Flipped

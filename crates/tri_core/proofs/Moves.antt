@@ -4,6 +4,13 @@ use Rattle.std.proofs.lemmas.Bool.{cases_eq, cond-true, cond-false, eqb-false}
 use Rattle.tri_core.specs.HalfEdges.{next_of, previous_of, triangle_of}
 use Rattle.tri_core.specs.Slots.{cycled, number_after, IsOuter}
 
+-- the half-edges round a triangle
+pub side_next : (h : ℕ) → triangle_of (next_of h) ≡ triangle_of h
+side_next h = omega arith
+
+pub side_previous : (h : ℕ) → triangle_of (previous_of h) ≡ triangle_of h
+side_previous h = omega arith
+
 -- four numbers that are all different
 pub record AreFour (n p q r : ℕ) : Type 0 where
   pub n_p : n ≢ p
@@ -86,3 +93,69 @@ cycled-within n p q r k l a b c d e = grind arith
 pub number_within : (h g k l : ℕ) → l % 3 ≡ 0 → h < l → g < l → k < l → number_after h g k < l
 number_within h g k l whole first second below =
     cycled-within (next_of h) (previous_of h) (next_of g) (previous_of g) k l (omega arith) (omega arith) (omega arith) (omega arith) below
+
+pub before_within : (h g k l : ℕ) → l % 3 ≡ 0 → h < l → g < l → k < l → number_before h g k < l
+before_within h g k l whole first second below =
+    cycled-within (previous_of g) (next_of g) (previous_of h) (next_of h) k l (omega arith) (omega arith) (omega arith) (omega arith) below
+
+-- h and its twin are no outer sides
+pub first_not_outer : (h g : ℕ) → ¬ (triangle_of h ≡ triangle_of g) → ¬ (IsOuter h g h)
+first_not_outer h g apart = λ o. elim o [
+  | inl e ↦ omega arith
+  | inr o ↦ elim o [ inl e ↦ omega arith | inr o ↦ elim o [ inl e ↦ apart (omega arith) | inr e ↦ apart (omega arith) ] ]
+]
+
+pub second_not_outer : (h g : ℕ) → ¬ (triangle_of h ≡ triangle_of g) → ¬ (IsOuter h g g)
+second_not_outer h g apart = λ o. elim o [
+  | inl e ↦ apart (omega arith)
+  | inr o ↦ elim o [ inl e ↦ apart (omega arith) | inr o ↦ elim o [ inl e ↦ omega arith | inr e ↦ omega arith ] ]
+]
+
+-- k is an outer side, or it isn't
+pub outer_or_not : (h g k : ℕ) → IsOuter h g k ⊎ ¬ (IsOuter h g k)
+outer_or_not h g k =
+    elim (cases_eq k (next_of h)) [
+      | inl e ↦ inl (inl e)
+      | inr a ↦ elim (cases_eq k (previous_of h)) [
+        | inl e ↦ inl (inr (inl e))
+        | inr b ↦ elim (cases_eq k (next_of g)) [
+          | inl e ↦ inl (inr (inr (inl e)))
+          | inr c ↦ elim (cases_eq k (previous_of g)) [
+            | inl e ↦ inl (inr (inr (inr e)))
+            | inr d ↦ inr (λ o. elim o [ inl e ↦ a e | inr o ↦ elim o [ inl e ↦ b e | inr o ↦ elim o [ inl e ↦ c e | inr e ↦ d e ] ] ])
+          ]
+        ]
+      ]
+    ]
+
+-- a side of another triangle is no outer side
+pub elsewhere_not_outer : (h g k : ℕ) → ¬ (triangle_of k ≡ triangle_of h) → ¬ (triangle_of k ≡ triangle_of g) → ¬ (IsOuter h g k)
+elsewhere_not_outer h g k a b = λ o. elim o [
+  | inl e ↦ a (omega arith)
+  | inr o ↦ elim o [ inl e ↦ a (omega arith) | inr o ↦ elim o [ inl e ↦ b (omega arith) | inr e ↦ b (omega arith) ] ]
+]
+
+-- an outer side stays in the two triangles
+pub outer_triangle : (h g k : ℕ) → IsOuter h g k → (triangle_of k ≡ triangle_of h) ⊎ (triangle_of k ≡ triangle_of g)
+outer_triangle h g k o = elim o [
+  | inl e ↦ inl (omega arith)
+  | inr o ↦ elim o [ inl e ↦ inl (omega arith) | inr o ↦ elim o [ inl e ↦ inr (omega arith) | inr e ↦ inr (omega arith) ] ]
+]
+
+pub moved_triangle : (h g k : ℕ) → ¬ (triangle_of h ≡ triangle_of g) → IsOuter h g k → (triangle_of (number_after h g k) ≡ triangle_of h) ⊎ (triangle_of (number_after h g k) ≡ triangle_of g)
+moved_triangle h g k apart o =
+    let f = outer_four h g apart in
+    let n : ℕ = next_of h in
+    let p : ℕ = previous_of h in
+    let q : ℕ = next_of g in
+    let r : ℕ = previous_of g in
+    elim o [
+      | inl e ↦ inl (ap triangle_of (cycled-first n p q r k e) ∙ side_previous h)
+      | inr o ↦ elim o [
+        | inl e ↦ inr (ap triangle_of (cycled-second n p q r k f e) ∙ side_next g)
+        | inr o ↦ elim o [
+          | inl e ↦ inr (ap triangle_of (cycled-third n p q r k f e) ∙ side_previous g)
+          | inr e ↦ inl (ap triangle_of (cycled-fourth n p q r k f e) ∙ side_next h)
+        ]
+      ]
+    ]
