@@ -5,8 +5,8 @@ ghost use Rattle.quad_field.specs.Quads.{quad_ops};
 ghost use Rattle.quad_field.specs.Width.{term_ops};
 ghost use Rattle.quad_field.specs.declared.formula.Formula.TheVariants.{F12};
 ghost use Rattle.plane.specs.Vectors.{vector, vector_term, vector_sum, opposite_vector, VectorFits};
-ghost use Rattle.tri_core.specs.HalfEdges.{half_at, twin_at, next_of, previous_of};
-ghost use Rattle.tri_core.specs.Flips.{next_of_twin, previous_of_twin, DiagonalFits};
+ghost use Rattle.tri_core.specs.HalfEdges.{vector_at, twin_at, next_of, previous_of};
+ghost use Rattle.tri_core.specs.Flips.{previous_of_twin, DiagonalFits};
 ghost use Rattle.tri_core.specs.Slots.{number_after, IsOuter, AreApart, HasPairs, IsCarried, linked_back};
 
 use super::{Half, Tri};
@@ -72,6 +72,27 @@ fn carried(edge: u32, twin: u32, half: Half) -> Half
     Half {
         vec: half.vec,
         twin: moved(edge, twin, half.twin),
+    }
+}
+
+/// The new diagonal at an edge. Too wide exactly where it or its opposite is.
+pub fn new_diagonal(f: &Field, halves: &[Half], edge: u32) -> Result<Diagonal, Wide>
+    requires few { length halves.now ≤ 768 }
+    requires apart { AreApart halves.now edge (twin_at halves.now edge) }
+    ensures exact { IfOk result (λ diagonal. vector diagonal.vec
+        ≡ opposite_vector (quad_ops f.now) (vector_sum (quad_ops f.now) (vector_at halves.now (previous_of_twin halves.now edge)) (vector_at halves.now (next_of edge)))) }
+    ensures opposite { IfOk result (λ diagonal. vector diagonal.opposite ≡ opposite_vector (quad_ops f.now) (vector diagonal.vec)) }
+    ensures fits { IsOk result ↔ DiagonalFits f.now halves.now edge }
+    ensures wide { IfErr result (λ wide. wide.formula ≡ F12) }
+{
+    let twin = halves[edge as usize].twin;
+    let u = &halves[previous(twin) as usize].vec;
+    let v = &halves[Tri::next(edge) as usize].vec;
+    match across(f, u, v) {
+        Ok(diagonal) => Ok(diagonal),
+        Err(_) => Err(Wide {
+            formula: Formula::F12,
+        }),
     }
 }
 
