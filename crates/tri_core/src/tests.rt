@@ -1,8 +1,8 @@
 //! Triangulations by hand: some that are made, copied and flipped, and each refusal once.
 
-ghost use Rattle.std.specs.Prelude.{◌≡◌, ◌↔◌, ◌<◌, length, IsTrue, IfOk};
-ghost use Rattle.tri_core.specs.HalfEdges.{vector_at, next_of, previous_of};
-ghost use Rattle.tri_core.specs.Flips.{next_of_twin, previous_of_twin, TurnsInto, IsEdge, IsStrictlyConvex};
+ghost use Rattle.std.specs.Prelude.{◌≡◌, ◌<◌, IsTrue, IfOk, IsSome, IfSome};
+ghost use Rattle.tri_core.specs.HalfEdges.{twin_at, previous_of};
+ghost use Rattle.tri_core.specs.Flips.{TurnsInto, IsEdge, IsStrictlyConvex};
 
 use super::{BadTri, Half, Tri};
 use plane::{Vec2, det};
@@ -262,11 +262,13 @@ fn first_difference(tri: &Tri, rows: &[Row]) -> Option<u32> {
 
 /// Whether half-edge k turns to the left into half-edge m.
 fn turns(f: &Field, tri: &Tri, k: u32, m: u32) -> Result<bool, TooWide>
-    requires field { f.now ≡ tri.now.field }
-    requires first { k < length tri.now.halves }
-    requires second { m < length tri.now.halves }
-    ensures { IfOk result (λ b. IsTrue b ↔ TurnsInto tri.now.field tri.now.halves k m) }
+    requires { f.now ≡ tri.now.field }
+    ensures { IfOk result (λ b. IsTrue b → TurnsInto tri.now.field tri.now.halves k m) }
 {
+    let count = 3 * tri.triangles();
+    if count <= k || count <= m {
+        return Ok(false);
+    }
     let area = det(f, &tri.half(k).vec, &tri.half(m).vec)?;
     Ok(f.sign(area) == Sign::Plus)
 }
@@ -279,18 +281,34 @@ fn previous(h: u32) -> u32
     Tri::next(Tri::next(h))
 }
 
+/// The twin of an edge.
+fn twin_of(tri: &Tri, h: u32) -> Option<u32>
+    ensures edge { IsSome result → IsEdge tri.now.halves h }
+    ensures twin { IfSome result (λ twin. twin ≡ twin_at tri.now.halves h) }
+    ensures few { IfSome result (λ twin. (h < 768) × (twin < 768)) }
+{
+    let count = 3 * tri.triangles();
+    if !tri.is_edge(h) {
+        return None;
+    }
+    let twin = tri.half(h).twin;
+    if twin < count { Some(twin) } else { None }
+}
+
 /// Whether h is an edge of a strictly convex quadrilateral.
 fn can_flip(f: &Field, tri: &Tri, h: u32) -> Result<bool, TooWide>
     requires { f.now ≡ tri.now.field }
-    ensures { IfOk result (λ b. IsTrue b → IsEdge tri.now.halves h × IsStrictlyConvex tri.now.field tri.now.halves h) }
+    ensures edge { IfOk result (λ b. IsTrue b → IsEdge tri.now.halves h) }
+    ensures convex { IfOk result (λ b. IsTrue b → IsStrictlyConvex tri.now.field tri.now.halves h) }
 {
-    if !tri.is_edge(h) {
+    let Some(twin) = twin_of(tri, h) else {
         return Ok(false);
-    }
-    let twin = tri.half(h).twin;
-    let (n, p) = (Tri::next(h), previous(h));
-    let (q, r) = (Tri::next(twin), previous(twin));
-    Ok(turns(f, tri, n, p)? && turns(f, tri, p, q)? && turns(f, tri, q, r)? && turns(f, tri, r, n)?)
+    };
+    let first = turns(f, tri, Tri::next(h), previous(h))?;
+    let second = turns(f, tri, previous(h), Tri::next(twin))?;
+    let third = turns(f, tri, Tri::next(twin), previous(twin))?;
+    let fourth = turns(f, tri, previous(twin), Tri::next(h))?;
+    Ok(first && second && third && fourth)
 }
 
 /// The flip, where it may be made.
@@ -323,9 +341,10 @@ fn flips_the_square_torus_back_after_four(rt: HostRuntime) -> Result<(), Fail> {
     assert_eq!(rt; flip_safely(&f, &mut copy, 2)?, Ok(()));
     assert_eq!(rt; first_difference(&copy, &TURNED), None);
     assert_eq!(rt; first_difference(&tri, &TORUS), None);
-    for _ in 0..4 {
-        assert_eq!(rt; flip_safely(&f, &mut tri, 2)?, Ok(()));
-    }
+    assert_eq!(rt; flip_safely(&f, &mut tri, 2)?, Ok(()));
+    assert_eq!(rt; flip_safely(&f, &mut tri, 2)?, Ok(()));
+    assert_eq!(rt; flip_safely(&f, &mut tri, 2)?, Ok(()));
+    assert_eq!(rt; flip_safely(&f, &mut tri, 2)?, Ok(()));
     assert_eq!(rt; first_difference(&tri, &TORUS), None);
     Ok(())
 }
