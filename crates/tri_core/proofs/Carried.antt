@@ -1,12 +1,12 @@
 -- The six slots of a flip, and the links back from outside.
-use Rattle.std.proofs.Common.{◌≡◌, ◌≢◌, ◌⊎◌, ℕ, ◌<◌, List, length, get_or, set, refl, sym, ◌∙◌, ap, subst, inl, inr, arith}
+use Rattle.std.proofs.Common.{◌≡◌, ◌≢◌, ◌⊎◌, ℕ, ◌<◌, List, length, refl, sym, ◌∙◌, ap, subst, inl, inr}
 use Rattle.std.proofs.lemmas.List.{get_or-set_same, get_or-set_other, length-set}
 use Rattle.std.proofs.lemmas.Bool.{cases_eq}
 use Rattle.plane.specs.declared.vec2.Vec2.{Vec2}
 use Rattle.tri_core.specs.declared.half.Half.{Half}
-use Rattle.tri_core.specs.HalfEdges.{half_at, twin_at, triangle_of, next_of, previous_of, no_half}
-use Rattle.tri_core.specs.Slots.{cycled, number_after, IsOuter, AreApart, HasPairs, IsCarried, linked_back}
-use Rattle.tri_core.proofs.Moves.{AreFour, cycled-first, cycled-second, cycled-third, cycled-fourth, cycled-other, number_back, number_same, outer_or_not, number_injective, number_within}
+use Rattle.tri_core.specs.HalfEdges.{half_at, twin_at, next_of, previous_of, no_half}
+use Rattle.tri_core.specs.Slots.{number_after, IsOuter, AreApart, HasPairs, IsCarried, linked_back}
+use Rattle.tri_core.proofs.Moves.{cycled-first, cycled-second, cycled-third, cycled-fourth, number_same, outer_or_not, number_injective, number_within}
 use Rattle.tri_core.proofs.Stores.{AreSix, six, six_stores, six_stores-length, six_stores-h, six_stores-g, six_stores-n, six_stores-p, six_stores-q, six_stores-r, six_stores-other}
 
 -- a half-edge in its slot: its vector is kept, and its twin carried along
@@ -23,10 +23,13 @@ module _ (halves : List Half) (h g : ℕ) (apart : AreApart halves h g) (twin : 
     (first : IsSide halves h g (next_of h) a) (second : IsSide halves h g (previous_of h) b) (third : IsSide halves h g (next_of g) c) (fourth : IsSide halves h g (previous_of g) d) where
   abbrev n : ℕ
   n = next_of h
+
   abbrev p : ℕ
   p = previous_of h
+
   abbrev q : ℕ
   q = next_of g
+
   abbrev r : ℕ
   r = previous_of g
 
@@ -111,10 +114,10 @@ carried-link halves h g u v IsLeft IsLeftThen later side slot apart pairs inside
     ] in
     let other : (k : ℕ) → ¬ (twin_at halves k ≡ side) → k < length halves → twin_at (linked_back later slot) (number_after h g k) ≡ twin_at later (number_after h g k) =
     λ k ne below. ap (λ (half : Half). half.twin) (get_or-set_other later place (number_after h g k) linked no_half
-      (λ e. ne (ap (twin_at halves) (number_injective h g k (twin_at halves side) apart.apart (e ∙ at)) ∙ pairs.back side inside))) in
+    (λ e. ne (ap (twin_at halves) (number_injective h g k (twin_at halves side) apart.apart (e ∙ at)) ∙ pairs.back side inside))) in
     let own : (k : ℕ) → twin_at halves k ≡ side → k < length halves → twin_at (linked_back later slot) (number_after h g k) ≡ number_after h g (twin_at halves k) =
     λ k e below. ap (twin_at (linked_back later slot)) (ap (number_after h g) (sym (pairs.back k below) ∙ ap (twin_at halves) e) ∙ sym at)
-      ∙ ap (λ (half : Half). half.twin) (get_or-set_same later place linked no_half within) ∙ sym is ∙ ap (number_after h g) (sym e) in
+    ∙ ap (λ (half : Half). half.twin) (get_or-set_same later place linked no_half within) ∙ sym is ∙ ap (number_after h g) (sym e) in
     record {
       count = length-set later place linked ∙ old.count;
       diagonal = vec h ∙ old.diagonal;

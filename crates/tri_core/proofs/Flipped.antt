@@ -1,19 +1,19 @@
 -- A flip of a triangulation at the edge of a strictly convex quadrilateral is a triangulation.
-use Rattle.std.proofs.Common.{◌≡◌, ◌≢◌, ◌⊎◌, ◌↔◌, ℕ, ◌+◌, ◌*◌, ◌/◌, ◌%◌, ◌<◌, ◌≤◌, Bool, true, List, ◌++◌, length, take, refl, sym, ◌∙◌, ap, subst, inl, inr, arith}
+use Rattle.std.proofs.Common.{◌≡◌, ◌⊎◌, ℕ, ◌*◌, ◌<◌, Bool, true, List, ◌++◌, length, take, refl, sym, ◌∙◌, ap, subst, inl, inr, arith}
 use Rattle.std.proofs.lemmas.Bool.{cases_eq}
 use Rattle.std.proofs.lemmas.List.{take_at}
 use Rattle.quad_field.specs.Quads.{quad_ops}
 use Rattle.plane.specs.declared.vec2.Vec2.{Vec2}
 use Rattle.plane.specs.Vectors.{vector, vector_sum, opposite_vector}
 use Rattle.tri_core.specs.declared.half.Half.{Half}
-use Rattle.tri_core.specs.HalfEdges.{half_at, vector_at, twin_at, triangle_of, next_of, previous_of}
-use Rattle.tri_core.specs.Triangulation.{IsTriangulation, IsTriangle, IsPaired, IsJoined, IsClosedUnderTwins}
-use Rattle.tri_core.specs.Flips.{IsEdge, IsStrictlyConvex, IsFlip, moved}
-use Rattle.tri_core.specs.Slots.{number_after, IsOuter, AreApart, HasPairs, IsCarried}
-use Rattle.tri_core.proofs.Moves.{outer_four, cycled-first, cycled-second, cycled-third, cycled-fourth, number_before, number_forth, number_same, number_within, before_within, first_not_outer, second_not_outer, outer_or_not, elsewhere_not_outer, outer_triangle, moved_triangle, side_next, side_previous}
+use Rattle.tri_core.specs.HalfEdges.{vector_at, twin_at, triangle_of, next_of, previous_of}
+use Rattle.tri_core.specs.Triangulation.{IsTriangulation, IsTriangle, IsPaired, IsClosedUnderTwins}
+use Rattle.tri_core.specs.Flips.{IsEdge, IsStrictlyConvex, IsFlip}
+use Rattle.tri_core.specs.Slots.{number_after, AreApart, IsCarried}
+use Rattle.tri_core.proofs.Moves.{cycled-first, cycled-second, cycled-third, cycled-fourth, number_before, number_forth, number_same, number_within, before_within, first_not_outer, second_not_outer, outer_or_not, elsewhere_not_outer, outer_triangle, moved_triangle, side_next, side_previous}
 use Rattle.tri_core.proofs.Stores.{AreSix, six}
 use Rattle.tri_core.proofs.Quadrilaterals.{IsTriple, triple_first, triple_second, from_opposite}
-use Rattle.tri_core.proofs.Triangles.{IsTripleAt, IsTripleOf, triple_at, triple_of, triple_to_first, triple_named, edge_apart}
+use Rattle.tri_core.proofs.Triangles.{IsTripleAt, IsTripleOf, triple_at, triple_of, triple_to_first, edge_apart}
 
 -- what is carried with the new diagonal is the flip
 pub flip-carried : (d : ℕ) (halves : List Half) (h : ℕ) (later : List Half) (u v : Vec2) → IsCarried halves h (twin_at halves h) u v (λ k. ⊥) later
@@ -47,14 +47,19 @@ apart-named d halves items xs h ei ex valid edge =
 module _ (d : ℕ) (halves : List Half) (h : ℕ) (later : List Half) (valid : IsTriangulation d halves) (edge : IsEdge halves h) (convex : IsStrictlyConvex d halves h) (flip : IsFlip d halves h later) where
   abbrev g : ℕ
   g = twin_at halves h
+
   abbrev n : ℕ
   n = next_of h
+
   abbrev p : ℕ
   p = previous_of h
+
   abbrev q : ℕ
   q = next_of g
+
   abbrev r : ℕ
   r = previous_of g
+
   abbrev number : ℕ → ℕ
   number k = number_after h g k
 
@@ -106,9 +111,11 @@ module _ (d : ℕ) (halves : List Half) (h : ℕ) (later : List Half) (valid : I
   triple-elsewhere : (k : ℕ) → k < length halves → ¬ (triangle_of k ≡ triangle_of h) → ¬ (triangle_of k ≡ triangle_of g) → IsTripleAt d later k
   triple-elsewhere k below a b =
       let whole = apart.count in
-      rw (vector-elsewhere k below a b,
+      rw (
+        vector-elsewhere k below a b,
         vector-elsewhere (next_of k) (omega arith) (λ e. a (sym (side_next k) ∙ e)) (λ e. b (sym (side_next k) ∙ e)),
-        vector-elsewhere (previous_of k) (omega arith) (λ e. a (sym (side_previous k) ∙ e)) (λ e. b (sym (side_previous k) ∙ e)))
+        vector-elsewhere (previous_of k) (omega arith) (λ e. a (sym (side_previous k) ∙ e)) (λ e. b (sym (side_previous k) ∙ e)),
+      )
       (triple_at d halves k valid below)
 
   -- every triangle
@@ -128,8 +135,7 @@ module _ (d : ℕ) (halves : List Half) (h : ℕ) (later : List Half) (valid : I
   paired-number k below =
       let twin = flip.twins k below in
       let old = valid.paired k below in
-      let inside = number_within h g (twin_at halves k) (length halves) apart.count apart.first apart.second old.0 in
-      (
+      let inside = number_within h g (twin_at halves k) (length halves) apart.count apart.first apart.second old.0 in (
         subst (λ (m : ℕ). m < length later) (sym twin) (subst (λ (l : ℕ). number (twin_at halves k) < l) (sym flip.count) inside),
         ap (twin_at later) twin ∙ flip.twins (twin_at halves k) old.0 ∙ ap number old.1,
         ap (vector_at later) twin ∙ opposite-number k below,

@@ -1,5 +1,5 @@
 -- The four links back from outside, one after the other.
-use Rattle.std.proofs.Common.{◌≡◌, ◌≢◌, ◌⊎◌, ℕ, ◌<◌, List, length, refl, sym, ◌∙◌, inl, inr}
+use Rattle.std.proofs.Common.{◌≡◌, ◌⊎◌, ℕ, ◌<◌, List, length, refl, sym, ◌∙◌, inl, inr}
 use Rattle.std.proofs.lemmas.Bool.{cases_eq}
 use Rattle.plane.specs.declared.vec2.Vec2.{Vec2}
 use Rattle.tri_core.specs.declared.half.Half.{Half}
@@ -29,10 +29,13 @@ LeftThree g k = k ≡ previous_of g
 module _ (halves : List Half) (h g : ℕ) (u v : Vec2) (apart : AreApart halves h g) (pairs : HasPairs halves) (later : List Half) (slot : ℕ) where
   abbrev n : ℕ
   n = next_of h
+
   abbrev p : ℕ
   p = previous_of h
+
   abbrev q : ℕ
   q = next_of g
+
   abbrev r : ℕ
   r = previous_of g
 

@@ -81,6 +81,7 @@ module _ {R : Type 0} (O : Ops R) (L : IsRing O) where
       one a b c d e =
           identity O L (a ∷ b ∷ c ∷ d ∷ e ∷ []) (expr.add (expr.add (expr.neg (expr.neg (expr.add (var 4) (var 1)))) (var 2)) (var 3))
           (expr.add (expr.add (expr.add (var 0) (var 1)) (var 2)) (expr.add (expr.add (expr.neg (var 0)) (var 3)) (var 4))) tt
+
       nothing : O.add (O.int (pos 0)) (O.int (pos 0)) ≡ O.int (pos 0)
       nothing = identity O L [] (expr.add (expr.int (pos 0)) (expr.int (pos 0))) (expr.int (pos 0)) tt
 

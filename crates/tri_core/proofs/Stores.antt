@@ -1,12 +1,10 @@
 -- What six stores to a list of half-edges leave at each number.
-use Rattle.std.proofs.Common.{◌≡◌, ◌≢◌, ◌⊎◌, ℕ, ◌+◌, ◌*◌, ◌/◌, ◌%◌, ◌<◌, ◌≤◌, List, length, get_or, set, refl, sym, ◌∙◌, ap, subst, inl, inr, arith}
+use Rattle.std.proofs.Common.{◌≡◌, ◌≢◌, ℕ, ◌<◌, List, length, set, ap, arith}
 use Rattle.std.proofs.lemmas.List.{get_or-set_same, get_or-set_other, length-set}
-use Rattle.std.proofs.lemmas.Bool.{cases_eq}
-use Rattle.plane.specs.declared.vec2.Vec2.{Vec2}
 use Rattle.tri_core.specs.declared.half.Half.{Half}
-use Rattle.tri_core.specs.HalfEdges.{half_at, twin_at, triangle_of, next_of, previous_of, no_half}
-use Rattle.tri_core.specs.Slots.{cycled, number_after, IsOuter, AreApart, HasPairs, IsCarried, linked_back}
-use Rattle.tri_core.proofs.Moves.{AreFour, cycled-first, cycled-second, cycled-third, cycled-fourth, cycled-other, cycled-back, outer_four}
+use Rattle.tri_core.specs.HalfEdges.{half_at, triangle_of, next_of, previous_of}
+use Rattle.tri_core.specs.Slots.{AreApart}
+use Rattle.tri_core.proofs.Moves.{AreFour, outer_four}
 
 -- a list after six stores
 abbrev pub six_stores : List Half → (h g n p q r : ℕ) → (x y a b c d : Half) → List Half

@@ -1,11 +1,9 @@
 -- The triangle at a half-edge, whichever side of it the half-edge is.
-use Rattle.std.proofs.Common.{◌≡◌, ◌≢◌, ◌⊎◌, ℕ, ◌+◌, ◌*◌, ◌/◌, ◌%◌, ◌<◌, List, length, refl, sym, ◌∙◌, ap, subst, inl, inr, arith}
+use Rattle.std.proofs.Common.{◌≡◌, ℕ, ◌+◌, ◌*◌, ◌/◌, ◌<◌, List, length, refl, sym, ◌∙◌, ap, subst, inl, inr, arith}
 use Rattle.std.proofs.lemmas.Bool.{cases_eq}
-use Rattle.quad_field.specs.Quads.{quad_ops}
-use Rattle.plane.specs.Vectors.{opposite_vector}
 use Rattle.tri_core.specs.declared.half.Half.{Half}
 use Rattle.tri_core.specs.HalfEdges.{vector_at, twin_at, triangle_of, next_of, previous_of}
-use Rattle.tri_core.specs.Triangulation.{IsTriangulation, IsClosed, TurnsLeft}
+use Rattle.tri_core.specs.Triangulation.{IsTriangulation}
 use Rattle.tri_core.specs.Flips.{IsEdge}
 use Rattle.tri_core.specs.Slots.{AreApart, HasPairs}
 use Rattle.tri_core.proofs.Quadrilaterals.{IsTriple, triple_turned, opposite_does_not_turn, from_opposite}

@@ -13,7 +13,7 @@ returns c =
     let third = c.carried-third.ensures in
     let fourth = c.carried-fourth.ensures in
     rw (n, p, q, r) (carried-six c.args.halves.now c.args.edge c.args.twin c.requires.apart c.requires.twin c.requires.edge
-      (record { vec = c.args.diagonal.vec; twin = c.args.twin }) (record { vec = c.args.diagonal.opposite; twin = c.args.edge })
-      c.carried-first.result c.carried-second.result c.carried-third.result c.carried-fourth.result refl refl
-      (side_from _ _ _ _ c.next.result _ n first.vec first.twin) (side_from _ _ _ _ c.previous.result _ p second.vec second.twin)
-      (side_from _ _ _ _ c.next-2.result _ q third.vec third.twin) (side_from _ _ _ _ c.previous-2.result _ r fourth.vec fourth.twin))
+    (record { vec = c.args.diagonal.vec; twin = c.args.twin }) (record { vec = c.args.diagonal.opposite; twin = c.args.edge })
+    c.carried-first.result c.carried-second.result c.carried-third.result c.carried-fourth.result refl refl
+    (side_from _ _ _ _ c.next.result _ n first.vec first.twin) (side_from _ _ _ _ c.previous.result _ p second.vec second.twin)
+    (side_from _ _ _ _ c.next-2.result _ q third.vec third.twin) (side_from _ _ _ _ c.previous-2.result _ r fourth.vec fourth.twin))
