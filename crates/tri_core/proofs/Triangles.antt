@@ -5,7 +5,7 @@ use Rattle.tri_core.specs.declared.half.Half.{Half}
 use Rattle.tri_core.specs.HalfEdges.{vector_at, twin_at, triangle_of, next_of, previous_of}
 use Rattle.tri_core.specs.Triangulation.{IsTriangulation}
 use Rattle.tri_core.specs.Flips.{IsEdge}
-use Rattle.tri_core.specs.Slots.{AreApart, HasPairs}
+use Rattle.tri_core.specs.Slots.{AreApart}
 use Rattle.tri_core.proofs.Quadrilaterals.{IsTriple, triple_turned, opposite_does_not_turn, from_opposite}
 
 -- half-edge h and those behind it are a triangle
@@ -93,6 +93,3 @@ edge_apart d halves h valid edge =
         ]
       ];
     }
-
-pub pairs_of : (d : ℕ) (halves : List Half) → IsTriangulation d halves → HasPairs halves
-pairs_of d halves valid = record { inside = λ k below. (valid.paired k below).0; back = λ k below. (valid.paired k below).1 }
