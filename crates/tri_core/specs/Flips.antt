@@ -13,6 +13,7 @@ IsEdge halves h = (h < length halves) × (h < twin_at halves h)
 -- the half-edges behind the twin of h
 abbrev pub next_of_twin : List Half → ℕ → ℕ
 next_of_twin halves h = next_of (twin_at halves h)
+
 abbrev pub previous_of_twin : List Half → ℕ → ℕ
 previous_of_twin halves h = previous_of (twin_at halves h)
 

@@ -6,5 +6,6 @@ pub use Rattle.plane.specs.Vectors
 pub mod HalfEdges
 pub mod Triangulation
 pub mod Flips
+pub mod Slots
 pub mod Refusals
 pub mod Search

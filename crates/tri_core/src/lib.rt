@@ -6,6 +6,7 @@ mod closed;
 mod half;
 mod joined;
 mod paired;
+mod quadrilateral;
 mod search;
 mod tri;
 mod turns;

@@ -1,8 +1,12 @@
-//! Triangulations by hand: one that is made, and each refusal once.
+//! Triangulations by hand: some that are made, copied and flipped, and each refusal once.
+
+ghost use Rattle.std.specs.Prelude.{◌≡◌, ◌<◌, IsTrue, IfOk, IsSome, IfSome};
+ghost use Rattle.tri_core.specs.HalfEdges.{twin_at, previous_of};
+ghost use Rattle.tri_core.specs.Flips.{TurnsInto, IsEdge, IsStrictlyConvex};
 
 use super::{BadTri, Half, Tri};
-use plane::Vec2;
-use quad_field::{Field, Formula, Quad};
+use plane::{Vec2, det};
+use quad_field::{Field, Formula, Quad, Sign, TooWide, Wide};
 use std::alloc::{AllocError, Global};
 use std::test::Fail;
 
@@ -239,4 +243,199 @@ fn goes_round_a_triangle(rt: HostRuntime) {
     for (h, next) in [(0, 1), (1, 2), (2, 0), (3, 4), (5, 3), (767, 765)] {
         assert_eq!(rt; Tri::next(h), next, "after {h}");
     }
+}
+
+/// The first half-edge that isn't its row.
+fn first_difference(tri: &Tri, rows: &[Row]) -> Option<u32> {
+    for h in 0..3 * tri.triangles() {
+        let half = tri.half(h);
+        let same = match rows.get(h as usize) {
+            Some(row) => (half.vec.s, half.vec.t, half.twin) == (whole(row.0), whole(row.1), row.2),
+            None => false,
+        };
+        if !same {
+            return Some(h);
+        }
+    }
+    None
+}
+
+/// Whether half-edge k turns to the left into half-edge m.
+fn turns(f: &Field, tri: &Tri, k: u32, m: u32) -> Result<bool, TooWide>
+    requires { f.now ≡ tri.now.field }
+    ensures { IfOk result (λ b. IsTrue b → TurnsInto tri.now.field tri.now.halves k m) }
+{
+    let count = 3 * tri.triangles();
+    if count <= k || count <= m {
+        return Ok(false);
+    }
+    let area = det(f, &tri.half(k).vec, &tri.half(m).vec)?;
+    Ok(f.sign(area) == Sign::Plus)
+}
+
+/// The half-edge before h in its triangle.
+fn previous(h: u32) -> u32
+    requires { h < 768 }
+    ensures { result ≡ previous_of h }
+{
+    Tri::next(Tri::next(h))
+}
+
+/// The twin of an edge.
+fn twin_of(tri: &Tri, h: u32) -> Option<u32>
+    ensures edge { IsSome result → IsEdge tri.now.halves h }
+    ensures twin { IfSome result (λ twin. twin ≡ twin_at tri.now.halves h) }
+    ensures few { IfSome result (λ twin. (h < 768) × (twin < 768)) }
+{
+    let count = 3 * tri.triangles();
+    if !tri.is_edge(h) {
+        return None;
+    }
+    let twin = tri.half(h).twin;
+    if twin < count { Some(twin) } else { None }
+}
+
+/// Whether h is an edge of a strictly convex quadrilateral.
+fn can_flip(f: &Field, tri: &Tri, h: u32) -> Result<bool, TooWide>
+    requires { f.now ≡ tri.now.field }
+    ensures edge { IfOk result (λ b. IsTrue b → IsEdge tri.now.halves h) }
+    ensures convex { IfOk result (λ b. IsTrue b → IsStrictlyConvex tri.now.field tri.now.halves h) }
+{
+    let Some(twin) = twin_of(tri, h) else {
+        return Ok(false);
+    };
+    let first = turns(f, tri, Tri::next(h), previous(h))?;
+    let second = turns(f, tri, previous(h), Tri::next(twin))?;
+    let third = turns(f, tri, Tri::next(twin), previous(twin))?;
+    let fourth = turns(f, tri, previous(twin), Tri::next(h))?;
+    Ok(first && second && third && fourth)
+}
+
+/// The flip, where it may be made.
+fn flip_safely(f: &Field, tri: &mut Tri, h: u32) -> Result<Result<(), Wide>, Fail>
+    requires { f.now ≡ tri.old.field }
+    ensures { tri.new.field ≡ tri.old.field }
+{
+    if !can_flip(f, tri, h)? {
+        return Err("no edge of a strictly convex quadrilateral".into());
+    }
+    Ok(tri.flip(f, h))
+}
+
+/// The square torus after the flip of its diagonal.
+const TURNED: [Row; 6] = [
+    (0, -1, 4),
+    (1, 0, 5),
+    (-1, 1, 3),
+    (1, -1, 2),
+    (0, 1, 0),
+    (-1, 0, 1),
+];
+
+#[test]
+fn flips_the_square_torus_back_after_four(rt: HostRuntime) -> Result<(), Fail> {
+    let f = Field::make(2).ok_or("2 is square-free")?;
+    let mut tri = Tri::make(rt.alloc(), &f, halves(rt.alloc(), &TORUS)?)?;
+    let mut copy = tri.copy(rt.alloc())?;
+    assert_eq!(rt; copy.triangles(), 2);
+    assert_eq!(rt; flip_safely(&f, &mut copy, 2)?, Ok(()));
+    assert_eq!(rt; first_difference(&copy, &TURNED), None);
+    assert_eq!(rt; first_difference(&tri, &TORUS), None);
+    assert_eq!(rt; flip_safely(&f, &mut tri, 2)?, Ok(()));
+    assert_eq!(rt; flip_safely(&f, &mut tri, 2)?, Ok(()));
+    assert_eq!(rt; flip_safely(&f, &mut tri, 2)?, Ok(()));
+    assert_eq!(rt; flip_safely(&f, &mut tri, 2)?, Ok(()));
+    assert_eq!(rt; first_difference(&tri, &TORUS), None);
+    Ok(())
+}
+
+/// Three squares in the shape of an L: the corner, the right one and the upper one.
+const CORNER: [Row; 18] = [
+    (1, 0, 16),
+    (0, 1, 11),
+    (-1, -1, 3),
+    (1, 1, 2),
+    (-1, 0, 12),
+    (0, -1, 7),
+    (1, 0, 10),
+    (0, 1, 5),
+    (-1, -1, 9),
+    (1, 1, 8),
+    (-1, 0, 6),
+    (0, -1, 1),
+    (1, 0, 4),
+    (0, 1, 17),
+    (-1, -1, 15),
+    (1, 1, 14),
+    (-1, 0, 0),
+    (0, -1, 13),
+];
+
+#[test]
+fn flips_squares_of_an_l(rt: HostRuntime) -> Result<(), Fail> {
+    let f = Field::make(2).ok_or("2 is square-free")?;
+    // no two outer sides of the corner are glued to each other
+    let mut corner = CORNER;
+    corner[0] = (0, -1, 7);
+    corner[1] = (1, 0, 16);
+    corner[2] = (-1, 1, 3);
+    corner[3] = (1, -1, 2);
+    corner[4] = (0, 1, 11);
+    corner[5] = (-1, 0, 12);
+    corner[7] = (0, 1, 0);
+    corner[16] = (-1, 0, 1);
+    corner[11] = (0, -1, 4);
+    corner[12] = (1, 0, 5);
+    // two of the right square's are
+    let mut right = CORNER;
+    right[6] = (0, -1, 1);
+    right[7] = (1, 0, 11);
+    right[8] = (-1, 1, 9);
+    right[9] = (1, -1, 8);
+    right[10] = (0, 1, 5);
+    right[11] = (-1, 0, 7);
+    right[5] = (0, -1, 10);
+    right[1] = (0, 1, 6);
+    for (h, after) in [(2, corner), (8, right)] {
+        let mut tri = Tri::make(rt.alloc(), &f, halves(rt.alloc(), &CORNER)?)?;
+        assert_eq!(rt; flip_safely(&f, &mut tri, h)?, Ok(()));
+        assert_eq!(rt; first_difference(&tri, &after), None, "edge {h}");
+    }
+    Ok(())
+}
+
+#[test]
+fn refuses_a_wide_diagonal_and_changes_nothing(rt: HostRuntime) -> Result<(), Fail> {
+    let f = Field::make(2).ok_or("2 is square-free")?;
+    let table: [[Row; 6]; 2] = [
+        // the opposite of the new diagonal is 2^127 to the right
+        [
+            (0, -1, 3),
+            (MANY, 1, 4),
+            (-MANY, 0, 5),
+            (0, 1, 0),
+            (-MANY, -1, 1),
+            (MANY, 0, 2),
+        ],
+        // the new diagonal is, and its opposite fits
+        [
+            (0, 1, 3),
+            (-MANY, -1, 4),
+            (MANY, 0, 5),
+            (0, -1, 0),
+            (MANY, 1, 1),
+            (-MANY, 0, 2),
+        ],
+    ];
+    for rows in table {
+        let mut tri = Tri::make(rt.alloc(), &f, halves(rt.alloc(), &rows)?)?;
+        assert_eq!(rt;
+            flip_safely(&f, &mut tri, 0)?,
+            Err(Wide {
+                formula: Formula::F12
+            })
+        );
+        assert_eq!(rt; first_difference(&tri, &rows), None);
+    }
+    Ok(())
 }

@@ -1,19 +1,21 @@
 //! Triangulations.
 
-ghost use Rattle.std.specs.Prelude.{◌≡◌, ◌↔◌, ℕ, ◌+◌, ◌*◌, ◌<◌, ◌≤◌, length, slice_get, Some, IsTrue, IsErrOf, IfOk, OnOk, IfErr, MatchResult, ◌⊎◌};
+ghost use Rattle.std.specs.Prelude.{◌≡◌, ◌↔◌, ℕ, ◌+◌, ◌*◌, ◌<◌, ◌≤◌, length, slice_get, Some, IsTrue, IsErrOf, IsOk, IfOk, OnOk, IfErr, MatchResult, ◌⊎◌};
 ghost use Rattle.tri_core.specs.HalfEdges.{next_of, twin_at};
 ghost use Rattle.tri_core.specs.Triangulation.{HasTriangles, IsTriangulation};
 ghost use Rattle.tri_core.specs.Refusals.{IsCause, IsForced, IsFree};
 ghost use Rattle.tri_core.specs.declared.tri.BadTri.{BadTri as Refusal};
 ghost use Rattle.tri_core.specs.declared.tri.BadTri.TheVariants.{Wide, Memory};
-ghost use Rattle.quad_field.specs.declared.formula.Formula.TheVariants.{F13};
+ghost use Rattle.tri_core.specs.Flips.{IsEdge, IsStrictlyConvex, IsFlip, DiagonalFits};
+ghost use Rattle.quad_field.specs.declared.formula.Formula.TheVariants.{F12, F13};
 
 use super::Half;
 use super::closed::first_open;
 use super::joined::first_apart;
 use super::paired::first_unpaired;
+use super::quadrilateral::{exchange, new_diagonal};
 use super::turns::first_not_left;
-use quad_field::{Field, Formula, TooWide};
+use quad_field::{Field, Formula, TooWide, Wide};
 use std::alloc::{AllocError, Global};
 use std::marker::Model;
 
@@ -154,5 +156,32 @@ impl Tri {
         ensures { result ≡ next_of h }
     {
         if h % 3 == 2 { h - 2 } else { h + 1 }
+    }
+
+    /// A copy of the triangulation.
+    pub fn copy(&self, alloc: Global) -> Result<Tri, AllocError>
+        ensures { IfOk result (λ tri. tri ≡ self.now) }
+    {
+        let halves = Vec::from_slice(alloc, self.halves.as_slice())?;
+        Ok(Tri {
+            field: self.field,
+            halves,
+        })
+    }
+
+    /// Replaces an edge by the other diagonal of its quadrilateral, in place and without memory.
+    /// The new diagonal takes the numbers of the edge and of its twin, and each outer side the number of the outer side after it round the quadrilateral.
+    /// Refused, and then nothing is changed, exactly where the new diagonal or its opposite is wide.
+    pub fn flip(&mut self, f: &Field, edge: u32) -> Result<(), Wide>
+        requires field { f.now ≡ self.old.field }
+        requires edge { IsEdge self.old.halves edge }
+        requires convex { IsStrictlyConvex self.old.field self.old.halves edge }
+        ensures flipped { OnOk result ((self.new.field ≡ self.old.field) × IsFlip self.old.field self.old.halves edge self.new.halves) }
+        ensures fits { IsOk result ↔ DiagonalFits self.old.field self.old.halves edge }
+        ensures wide { IfErr result (λ wide. (wide.formula ≡ F12) × (self.new ≡ self.old)) }
+    {
+        let diagonal = new_diagonal(f, self.halves.as_slice(), edge)?;
+        exchange(self.halves.as_mut_slice(), edge, diagonal);
+        Ok(())
     }
 }
