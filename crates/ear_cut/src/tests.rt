@@ -41,10 +41,10 @@ const SQUARE_ROWS: &[Row] = &[
 ];
 
 /// A rectangle with a flat corner on its lower and on its upper side: the corner behind the lower one is cut off first.
-const FLAT: &[u8] =
+const TWO_FLAT: &[u8] =
     b"flat 1\nfield 2\npolygon 1,0 1,0 0,1 -1,0 -1,0 0,-1\nglue 0.0 0.4\nglue 0.1 0.3\nglue 0.2 0.5\nend\n";
 
-const FLAT_ROWS: &[Row] = &[
+const TWO_FLAT_ROWS: &[Row] = &[
     (1, 0, 7),
     (0, 1, 11),
     (-1, -1, 4),
@@ -61,10 +61,10 @@ const FLAT_ROWS: &[Row] = &[
 
 /// Two triangles with a flat corner each: cutting off the corner opposite to that one, which is the least positive
 /// corner, would leave a flat list, so it is no ear.
-const SPIKES: &[u8] =
+const ONE_FLAT: &[u8] =
     b"flat 1\nfield 2\npolygon -1,1 -1,-1 1,0 1,0\npolygon 1,-1 1,1 -1,0 -1,0\nglue 0.0 1.0\nglue 0.1 1.1\nglue 0.2 1.2\nglue 0.3 1.3\nend\n";
 
-const SPIKES_ROWS: &[Row] = &[
+const ONE_FLAT_ROWS: &[Row] = &[
     (-1, -1, 6),
     (1, 0, 7),
     (0, 1, 4),
@@ -83,8 +83,8 @@ const SPIKES_ROWS: &[Row] = &[
 fn cuts_surfaces(rt: HostRuntime) -> Result<(), Fail> {
     for (text, rows) in [
         (SQUARE, SQUARE_ROWS),
-        (FLAT, FLAT_ROWS),
-        (SPIKES, SPIKES_ROWS),
+        (TWO_FLAT, TWO_FLAT_ROWS),
+        (ONE_FLAT, ONE_FLAT_ROWS),
     ] {
         let tri = triangulation(rt.alloc(), text)?;
         assert_eq!(rt; (3 * tri.triangles()) as usize, rows.len());
