@@ -421,7 +421,7 @@ fn blames_the_end_that_failed(rt: HostRuntime) -> Result<(), Fail> {
 #[test]
 fn refuses_every_proper_prefix(rt: HostRuntime) -> Result<(), Fail> {
     let alloc = rt.alloc();
-    let mut line = 1;
+    let mut line: u32 = 1;
     let mut at_start = true;
     for (length, byte) in TORUS.iter().enumerate() {
         let (cause, name) = if at_start {
@@ -435,7 +435,7 @@ fn refuses_every_proper_prefix(rt: HostRuntime) -> Result<(), Fail> {
         assert_eq!(rt; written.as_slice(), text.as_bytes());
         at_start = *byte == b'\n';
         if at_start {
-            line += 1;
+            line = line.wrapping_add(1);
         }
     }
     Ok(())
