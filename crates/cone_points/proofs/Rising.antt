@@ -12,7 +12,8 @@ use Rattle.plane.specs.Vectors.{det, opposite_vector}
 use Rattle.tri_core.specs.declared.half.Half.{Half}
 use Rattle.tri_core.specs.HalfEdges.{vector_at, twin_at, previous_of}
 use Rattle.tri_core.specs.Triangulation.{IsTriangulation, IsTriangle}
-use Rattle.cone_points.specs.Vertices.{turned, turned_often, IsUpper, Rises}
+use Rattle.cone_points.specs.Vertices.{turned, turned_often, Rises}
+use Rattle.plane.specs.Halves.{IsUpper}
 use Rattle.cone_points.specs.Walks.{TellsUpper, rises_by}
 use Rattle.cone_points.proofs.Directions.{no_upper_round, no_lower_round, lower_of, upper_once, upper_decided, not_all_upper, not_all_lower, first_corner, second_corner, third_corner}
 use Rattle.cone_points.proofs.Rounds.{often_sum, triangles, previous_inside, turned_inside, often_inside, returns_to}

@@ -2,6 +2,7 @@
 use Rattle.std.specs.Prelude.{◌≡◌, ◌↔◌, ℕ, zero, suc, ◌<◌, ◌≤◌, pos, ◌⊎◌, List, length, get_or, Contains}
 use Rattle.quad_field.specs.Quads.{quad_ops, IsPositive}
 use Rattle.quad_field.specs.declared.quad.Quad.{Quad}
+use Rattle.plane.specs.Halves.{IsUpper}
 use Rattle.plane.specs.Vectors.{Vector}
 use Rattle.tri_core.specs.declared.half.Half.{Half}
 use Rattle.tri_core.specs.HalfEdges.{vector_at, twin_at, previous_of}
@@ -22,10 +23,6 @@ StartsWith halves h k = (n : ℕ) × (turned_often halves n h ≡ k)
 -- a vertex has the name of the least half-edge that starts there
 abbrev pub IsVertex : List Half → ℕ → Type 0
 IsVertex halves v = (v < length halves) × ((k : ℕ) → StartsWith halves v k → v ≤ k)
-
--- a vector (s, t) is in the upper half: t > 0, or t = 0 and s > 0
-abbrev pub IsUpper : ℕ → Vector Quad → Type 0
-IsUpper d v = IsPositive d v.1 ⊎ ((v.1 ≡ (quad_ops d).int (pos 0)) × IsPositive d v.0)
 
 -- from half-edge h to the next about its starting point the half changes from lower to upper: the direction (1, 0) lies between them
 abbrev pub Rises : ℕ → List Half → ℕ → Type 0

@@ -2,7 +2,8 @@
 use Rattle.std.specs.Prelude.{◌≡◌, ◌↔◌, ℕ, zero, suc, ◌+◌, ◌<◌, ◌≤◌, Bool, false, not, ◌&&◌, cond, IsTrue, List, length, get_or}
 use Rattle.tri_core.specs.declared.half.Half.{Half}
 use Rattle.tri_core.specs.HalfEdges.{vector_at}
-use Rattle.cone_points.specs.Vertices.{turned, StartsWith, IsUpper, IsVertex, IsTurns, IsListOf}
+use Rattle.cone_points.specs.Vertices.{turned, StartsWith, IsVertex, IsTurns, IsListOf}
+use Rattle.plane.specs.Halves.{IsUpper}
 use Rattle.cone_points.specs.Angles.{sum_of}
 
 -- the list tells of each half-edge whether its vector is in the upper half

@@ -1,25 +1,12 @@
 //! The halves of the plane in which the vectors of half-edges lie.
 
-ghost use Rattle.std.specs.Prelude.{◌≡◌, ◌↔◌, IsTrue, IfOk};
-ghost use Rattle.plane.specs.Vectors.{vector};
-ghost use Rattle.cone_points.specs.Vertices.{IsUpper};
+ghost use Rattle.std.specs.Prelude.{◌≡◌, IfOk};
 ghost use Rattle.cone_points.specs.Walks.{TellsUpper};
 
-use plane::Vec2;
-use quad_field::{Field, Sign};
+use plane::is_upper;
+use quad_field::Field;
 use std::alloc::{AllocError, Global};
 use tri_core::Tri;
-
-/// Whether a vector is in the upper half.
-fn is_upper(f: &Field, v: &Vec2) -> bool
-    ensures { IsTrue result ↔ IsUpper f.now (vector v.now) }
-{
-    match f.sign(v.t) {
-        Sign::Plus => true,
-        Sign::Zero => f.sign(v.s) == Sign::Plus,
-        Sign::Minus => false,
-    }
-}
 
 /// For each half-edge whether its vector is in the upper half.
 pub fn uppers(alloc: Global, f: &Field, tri: &Tri) -> Result<Vec<bool>, AllocError>

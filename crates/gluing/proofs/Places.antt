@@ -10,7 +10,8 @@ use Rattle.plane.specs.Vectors.{Vector, vector, vector_sum, det}
 use Rattle.plane.specs.declared.vec2.Vec2.{Vec2}
 use Rattle.quad_field.specs.declared.quad.Sign.TheVariants.{Plus, Zero, Minus}
 use Rattle.gluing.specs.Bounds.{IsCornerProper}
-use Rattle.gluing.specs.Polygons.{no_vector, side_at, side_after, corner, sum_of, vectors, zero_of, PointAlike, IsUpper, Rises}
+use Rattle.gluing.specs.Polygons.{no_vector, side_at, side_after, corner, sum_of, vectors, zero_of, PointAlike, Rises}
+use Rattle.plane.specs.Halves.{IsUpper}
 
 -- as many vectors as sides
 pub length-vectors : (sides : List Vec2) → length (vectors sides) ≡ length sides

@@ -2,6 +2,7 @@
 use Rattle.std.specs.Prelude.{◌≡◌, ℕ, pos, ◌+◌, ◌%◌, ◌<◌, ◌⊎◌, List, [], ◌∷◌, length, map, get_or, slice_index_or}
 use Rattle.quad_field.specs.Quads.{quad_ops, IsPositive}
 use Rattle.quad_field.specs.declared.quad.Quad.{Quad}
+use Rattle.plane.specs.Halves.{IsUpper}
 use Rattle.plane.specs.Vectors.{Vector, det, vector_sum, vector}
 use Rattle.plane.specs.declared.vec2.Vec2.{Vec2}
 
@@ -49,10 +50,6 @@ IsFlat d sides = (i : ℕ) → i < length sides → corner d sides i ≡ zero_of
 -- the inner product of two vectors is positive: where they are parallel, they point the same way
 abbrev pub PointAlike : ℕ → Vector Quad → Vector Quad → Type 0
 PointAlike d u v = let O = quad_ops d in IsPositive d (O.add (O.mul u.0 v.0) (O.mul u.1 v.1))
-
--- a vector (s, t) is in the upper half: t > 0, or t = 0 and s > 0
-abbrev pub IsUpper : ℕ → Vector Quad → Type 0
-IsUpper d v = IsPositive d v.1 ⊎ ((v.1 ≡ zero_of d) × IsPositive d v.0)
 
 -- at corner i the half changes from lower to upper
 abbrev pub Rises : ℕ → List (Vector Quad) → ℕ → Type 0

@@ -8,8 +8,8 @@ ghost use Rattle.surface_text.specs.Limits.{IsBoundedVector};
 ghost use Rattle.gluing.specs.Polygons.{zero_of, vectors, side_at, side_after, corner, PointAlike, IsFlat, Rises};
 ghost use Rattle.gluing.specs.Bounds.{IsCornerProper, AreCornersProper};
 
-use super::vectors::{is_upper, is_zero, point_alike, turn};
-use plane::Vec2;
+use super::vectors::{is_zero, point_alike, turn};
+use plane::{Vec2, is_upper};
 use quad_field::{Field, Sign};
 
 /// Side i.

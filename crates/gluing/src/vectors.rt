@@ -5,7 +5,7 @@ ghost use Rattle.quad_field.specs.Quads.{quad_ops, IsPositive};
 ghost use Rattle.quad_field.specs.Width.{term_ops, StepsFit};
 ghost use Rattle.plane.specs.Vectors.{vector, vector_term, vector_sum, VectorFits, det as determinant};
 ghost use Rattle.surface_text.specs.Limits.{IsBoundedVector};
-ghost use Rattle.gluing.specs.Polygons.{zero_of, no_vector, IsUpper, PointAlike};
+ghost use Rattle.gluing.specs.Polygons.{zero_of, no_vector, PointAlike};
 ghost use Rattle.gluing.specs.Bounds.{inner};
 
 use plane::{Vec2, det, sum};
@@ -58,17 +58,6 @@ pub fn point_alike(f: &Field, u: &Vec2, v: &Vec2) -> bool
     match inner_product(f, u, v) {
         Ok(product) => f.sign(product) == Sign::Plus,
         Err(_) => false,
-    }
-}
-
-/// Whether a vector is in the upper half.
-pub fn is_upper(f: &Field, v: &Vec2) -> bool
-    ensures { IsTrue result ↔ IsUpper f.now (vector v.now) }
-{
-    match f.sign(v.t) {
-        Sign::Plus => true,
-        Sign::Zero => f.sign(v.s) == Sign::Plus,
-        Sign::Minus => false,
     }
 }
 

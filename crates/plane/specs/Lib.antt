@@ -5,3 +5,4 @@ pub use Rattle.quad_field.specs.FieldNumber
 pub mod Vectors
 pub mod Spelling
 pub mod Reading
+pub mod Halves

@@ -2,10 +2,12 @@
 //! Every operation is exact, or says that a step of it lies outside i128; every number has one spelling.
 #![tactic(auto)]
 
+mod halves;
 mod texts;
 mod vec2;
 mod words;
 
+pub use halves::is_upper;
 pub use texts::{QUAD_LENGTH, VECTOR_LENGTH, WHOLE_LENGTH, put_natural, put_quad, put_vector};
 pub use vec2::{Vec2, det, opposite, sum};
 pub use words::{NaturalWord, QuadWord, VectorWord, read_natural, read_quad, read_vector};

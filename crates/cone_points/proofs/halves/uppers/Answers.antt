@@ -4,7 +4,7 @@ use Rattle.std.proofs.lemmas.Option.{get_or_from_slice_get}
 use Rattle.std.proofs.lemmas.List.{length-append}
 use Rattle.plane.specs.Vectors.{vector}
 use Rattle.tri_core.specs.HalfEdges.{half_at, vector_at, no_half}
-use Rattle.cone_points.specs.Vertices.{IsUpper}
+use Rattle.plane.specs.Halves.{IsUpper}
 use Rattle.cone_points.specs.Walks.{TellsUpper}
 use Rattle.cone_points.proofs.Uppers.{tells_more}
 use Rattle.cone_points.proofs.halves.uppers.Goals as goal

@@ -1,7 +1,7 @@
 use Rattle.std.proofs.Common.{◌≡◌, ℕ, ◌<◌, false, length, get_or}
 use Rattle.std.specs.Prelude.{◌↔◌, IsTrue}
 use Rattle.tri_core.specs.HalfEdges.{vector_at}
-use Rattle.cone_points.specs.Vertices.{IsUpper}
+use Rattle.plane.specs.Halves.{IsUpper}
 use Rattle.cone_points.proofs.halves.uppers.Given as goal
 
 abbrev pub invariant-loop-h : goal.invariant-loop-h

@@ -1,6 +1,6 @@
 use Rattle.std.proofs.Common.{ap, not}
 use Rattle.std.proofs.lemmas.Bool.{both_ways}
-use Rattle.gluing.specs.Polygons.{IsUpper}
+use Rattle.plane.specs.Halves.{IsUpper}
 use Rattle.plane.specs.Vectors.{vector}
 use Rattle.gluing.proofs.Places.{rises_at}
 use Rattle.gluing.proofs.corners.rises.Goals as goal
