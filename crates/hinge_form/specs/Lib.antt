@@ -1,0 +1,2 @@
+pub mod Hinges
+pub mod Steps
