@@ -8,12 +8,11 @@ use Rattle.surface_text.specs.declared.file.TextFault.TheVariants as text_faults
 use Rattle.gluing.specs.Refusals.{IsRefused as IsGluingRefused, IsFaultOf}
 use Rattle.gluing.specs.declared.fault.GlueFault.{GlueFault}
 use Rattle.gluing.specs.declared.fault.GlueFault.TheVariants as glue_faults
-use Rattle.veech_cli.specs.declared.command.Command.TheVariants.{Check}
 use Rattle.veech_cli.specs.declared.refusal.Refusal.{Refusal}
 use Rattle.veech_cli.specs.declared.refusal.Refusal.TheVariants as refusals
 use Rattle.veech_cli.specs.Statuses.{refusal_of_text, refusal_of_gluing}
 use Rattle.veech_cli.specs.SurfaceFiles.{IsTextOf, IsRefused, too_long, text_refused, not_glued}
-use Rattle.veech_cli.specs.Runs.{IsRefusalFor}
+use Rattle.veech_cli.specs.Runs.{IsFileRefusal}
 
 -- a refusal for this cause in this line, or for want of memory
 abbrev pub IsFor : ℕ → ℕ → Refusal → Type 0
@@ -32,8 +31,8 @@ at_text input short fault accepted refused cause line (text_refused _ h) = elim 
 at_text input short fault accepted refused cause line (not_glued file t h) = inr (ap refusal_of_text (accepted file t.spelled t.limits))
 
 -- where the polygons weren't glued, the refusal holds of the input
-pub gluing_refused : (input : List ℕ) (file : Content) → IsTextOf input file → (fault : GlueFault) → IsFaultOf file fault → IsRefusalFor Check input (refusal_of_gluing fault)
-gluing_refused input file t (glue_faults.Bad cause line) h = (not_glued file t h, refl)
+pub gluing_refused : (input : List ℕ) (file : Content) → IsTextOf input file → (fault : GlueFault) → IsFaultOf file fault → IsFileRefusal input (refusal_of_gluing fault)
+gluing_refused input file t (glue_faults.Bad cause line) h = not_glued file t h
 gluing_refused input file t glue_faults.Memory h = tt
 
 -- and it is the input's

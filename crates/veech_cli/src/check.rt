@@ -1,17 +1,14 @@
 //! The command `check`.
 
-ghost use Rattle.std.specs.Prelude.{◌≡◌, ◌≤◌, ◌++◌, ℕ, length, IfOk, OnOk, IfErr};
+ghost use Rattle.std.specs.Prelude.{◌≡◌, ◌≤◌, ◌++◌, length, IfOk, OnOk, IfErr};
 ghost use Rattle.plane.specs.Spelling.{natural_text};
-ghost use Rattle.surface_text.specs.Spelling.{Content};
-ghost use Rattle.veech_cli.specs.SurfaceFiles.{IsAccepted, IsRefused};
-ghost use Rattle.veech_cli.specs.Runs.{Says, IsRefusalFor, IsRefusedFor};
+ghost use Rattle.veech_cli.specs.Runs.{Says, IsRefusalFor, IsExpected};
 ghost use Rattle.veech_cli.specs.Texts.{check_text, edge_count, numbers_text};
 ghost use Rattle.veech_cli.specs.declared.command.Command.TheVariants.{Check};
 ghost use Rattle.veech_cli.specs.declared.status.Status.TheVariants.{Done};
-ghost use Rattle.veech_cli.specs.declared.refusal.Refusal.TheVariants.{Memory};
 
 use super::refusal::Refusal;
-use super::surface::triangulate;
+use super::surface::surface_of;
 use cone_points::{Cones, cones_of};
 use plane::put_natural;
 use std::alloc::{AllocError, Global};
@@ -22,12 +19,11 @@ pub(crate) fn check(alloc: Global, input: &[u8]) -> Result<Vec<u8>, Refusal>
     requires { length input.now ≤ 1048576 }
     ensures said { IfOk result (λ text. Says Check input.now Done text.items) }
     ensures refusal { IfErr result (IsRefusalFor Check input.now) }
-    ensures accepted { (file : Content) → IsAccepted input.now file → IfErr result (λ refusal. refusal ≡ Memory) }
-    ensures refused { (cause line : ℕ) → IsRefused input.now cause line → IsRefusedFor cause line result }
+    ensures expected { IsExpected Check input.now result }
 {
-    let (field, tri) = triangulate(alloc, input)?;
-    let cones = cones_of(alloc, &field, &tri)?;
-    Ok(counts(alloc, &tri, &cones)?)
+    let surface = surface_of(alloc, input)?;
+    let cones = cones_of(alloc, &surface.field, &surface.tri)?;
+    Ok(counts(alloc, &surface.tri, &cones)?)
 }
 
 /// The counts of a triangulation, as `check` prints them.

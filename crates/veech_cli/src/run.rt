@@ -1,17 +1,22 @@
 //! The top call.
 
-ghost use Rattle.std.specs.Prelude.{◌≡◌, ℕ, ◌≤◌, ◌⊎◌, List, [], IfSome, IfOk, OnOk, IfErr, IsErrOf};
+ghost use Rattle.std.specs.Prelude.{◌≡◌, ℕ, ◌≤◌, ◌⊎◌, List, [], length, IfSome, IfOk, OnOk, IfErr, IsErrOf};
 ghost use Rattle.std.specs.Option.{option_map};
 ghost use Rattle.std.specs.declared.option.Option.{Option};
 ghost use Rattle.io_ends.specs.Ends.{Rose, given};
 ghost use Rattle.surface_text.specs.Spelling.{Content};
+ghost use Rattle.surface_text.specs.declared.file.Point.{Point as PointValue};
+ghost use Rattle.tri_core.specs.declared.half.Half.{Half as HalfEdge};
+ghost use Rattle.delaunay_flip.specs.Bases.{Ending as FlipEnding, EndsListed};
 ghost use Rattle.veech_cli.specs.Commands.{Names, AreTaken};
-ghost use Rattle.veech_cli.specs.SurfaceFiles.{IsAccepted, IsRefused};
-ghost use Rattle.veech_cli.specs.Runs.{Says, Concludes, Settles, Delivers, IsInput, IsRefusalOf, IsExpected, IsAnswerTo, IsReadWhole, SpeaksOfInput};
-ghost use Rattle.veech_cli.specs.Statuses.{status_of};
+ghost use Rattle.veech_cli.specs.SurfaceFiles.{IsAccepted, IsTriangulationOf, IsRefused};
+ghost use Rattle.veech_cli.specs.Endings.{points_of, status_of_ending};
+ghost use Rattle.veech_cli.specs.Runs.{Says, Concludes, Settles, Delivers, IsInput, IsRefusalFor, IsRefusalOf, IsExpected, IsAnswerTo, IsReadWhole, SpeaksOfInput};
+ghost use Rattle.veech_cli.specs.Statuses.{status_of, HasBasePoint};
 ghost use Rattle.veech_cli.specs.Texts.{fault_line};
 ghost use Rattle.veech_cli.specs.declared.status.Status.{Status as Ending};
 
+use super::base::base;
 use super::check::check;
 use super::command::{Command, command_of};
 use super::refusal::Refusal;
@@ -55,14 +60,21 @@ pub fn run_plain<S: Source, K: Sink>(
     ensures source_never_falls { S.faults source.old ≤ S.faults source.new }
     ensures sink_never_falls { K.faults sink.old ≤ K.faults sink.new }
 
-    // `check` answers: where no end failed and the source tells its bytes, Done exactly where the input is accepted,
-    // and the refusal of the file exactly for the cause and the line for which it is refused, but for want of memory.
+    // Where no end failed and the source tells its bytes, a command answers as it owes, but for want of memory:
+    // `check` Done exactly where the input is accepted, `base` the status of the ending of its flipping,
+    // and each of them the refusal of the file exactly for the cause and the line for which it is refused.
     ensures accepted { Names words.now Command.Check
         → ¬ (Rose (S.faults source.old) (S.faults source.new))
         → ¬ (Rose (K.faults sink.old) (K.faults sink.new))
         → IfSome (S.left source.old) (λ input. (file : Content) → IsAccepted input file
         → (result ≡ Status.Done) ⊎ (result ≡ Status.Memory)) }
-    ensures bad_file { Names words.now Command.Check
+    ensures base { (flips : ℕ) → Names words.now (Command.Base flips)
+        → ¬ (Rose (S.faults source.old) (S.faults source.new))
+        → ¬ (Rose (K.faults sink.old) (K.faults sink.new))
+        → IfSome (S.left source.old) (λ input. (file : Content) (halves : List HalfEdge) (at : PointValue) (ending : FlipEnding)
+        → IsAccepted input file → IsTriangulationOf file halves → EndsListed file.field halves (points_of file) flips at ending
+        → (result ≡ status_of_ending at ending) ⊎ (result ≡ Status.Memory)) }
+    ensures bad_file { AreTaken words.now
         → ¬ (Rose (S.faults source.old) (S.faults source.new))
         → ¬ (Rose (K.faults sink.old) (K.faults sink.new))
         → IfSome (S.left source.old) (λ input. (cause line : ℕ) → IsRefused input cause line
@@ -103,6 +115,7 @@ fn answer<S: Source, K: Sink>(
 
 /// Writes the line of a refusal, or of want of memory where there is none for it.
 fn refuse<K: Sink>(alloc: Global, sink: &mut K, refusal: Refusal) -> Status
+    requires { HasBasePoint refusal }
     ensures delivered { (status : Ending) × ((status ≡ status_of refusal) ⊎ (status ≡ Ending.Memory))
         × Delivers status (fault_line status) result (K.taken sink.old) (K.taken sink.new) }
     ensures fault { result ≡ Status.WriteFault → Rose (K.faults sink.old) (K.faults sink.new) }
@@ -121,15 +134,26 @@ fn settle<S: Source>(alloc: Global, command: Command, source: &mut S) -> Result<
     ensures refused { IfErr result (λ refusal. (input : List ℕ) × IsInput (S.left source.old) input
         × IsRefusalOf command input refusal) }
     ensures all_read { OnOk result (S.left source.new ≡ option_map (λ _. []) (S.left source.old)) }
-    ensures read_whole { (cause line : ℕ) → IsErrOf result (Refusal.File cause line) → IsReadWhole (S.left source.old) (S.left source.new) }
+    ensures read_whole { IfErr result (λ refusal. SpeaksOfInput (status_of refusal) → IsReadWhole (S.left source.old) (S.left source.new)) }
     ensures expected { IfSome (S.left source.old) (λ input. IsExpected command input result) }
     ensures reads { (n : ℕ) × (n ≤ 1048577) × (S.left source.new ≡ given n (S.left source.old)) }
     ensures read_fault { IsErrOf result Refusal.ReadFault → Rose (S.faults source.old) (S.faults source.new) }
     ensures never_falls { S.faults source.old ≤ S.faults source.new }
 {
     let input = read_all(alloc, source, INPUT_LIMIT)?;
+    output(alloc, command, input.as_slice())
+}
+
+/// What the command writes for an input, or why there is none.
+fn output(alloc: Global, command: Command, input: &[u8]) -> Result<Vec<u8>, Refusal>
+    requires { length input.now ≤ 1048576 }
+    ensures said { IfOk result (λ text. Says command input.now Status.Done text.items) }
+    ensures refusal { IfErr result (IsRefusalFor command input.now) }
+    ensures expected { IsExpected command input.now result }
+{
     match command {
-        Command::Check => Ok(check(alloc, input.as_slice())?),
+        Command::Check => check(alloc, input),
+        Command::Base { flips } => base(alloc, input, flips),
     }
 }
 

@@ -3,6 +3,10 @@
 ghost use Rattle.std.specs.Prelude.{◌≡◌};
 ghost use Rattle.veech_cli.specs.Statuses.{number_of};
 
+use super::Place;
+use quad_field::Formula;
+use surface_text::Point;
+
 /// How a run ends. Each status but `Done` and `WriteFault` has written its one line in place of the output.
 #[derive(Clone, Copy, Debug, PartialEq, Eq)]
 pub enum Status {
@@ -12,6 +16,12 @@ pub enum Status {
     Words,
     /// The input is no file that is built, by this cause at this line.
     File { cause: u8, line: u64 },
+    /// The triangulation isn't strictly Delaunay at its last point: no hinge value is negative there, and that of this edge is zero.
+    NotStrict { edge: u32 },
+    /// A hinge value at this point is still negative after all flips.
+    FlipsEnded { point: Point },
+    /// A step of this formula lies outside 128 bits at this place.
+    TooWide { formula: Formula, place: Place },
     /// The source failed.
     ReadFault,
     /// The sink failed; a prefix of what was to be written stands there.
@@ -28,6 +38,9 @@ pub fn status_number(status: &Status) -> u8
         Status::Done => 0,
         Status::Words => 2,
         Status::File { .. } => 3,
+        Status::NotStrict { .. } => 4,
+        Status::FlipsEnded { .. } => 5,
+        Status::TooWide { .. } => 6,
         Status::ReadFault => 8,
         Status::WriteFault => 9,
         Status::Memory => 10,

@@ -1,10 +1,10 @@
 //! From the bytes of a surface file to its triangulation.
 
-ghost use Rattle.std.specs.Prelude.{◌≡◌, ◌≤◌, ℕ, length, IfOk, IfErr};
+ghost use Rattle.std.specs.Prelude.{◌≡◌, ◌≤◌, ℕ, List, length, IfOk, IfErr};
 ghost use Rattle.surface_text.specs.Spelling.{Content};
-ghost use Rattle.veech_cli.specs.SurfaceFiles.{IsAccepted, IsRefused};
-ghost use Rattle.veech_cli.specs.Runs.{IsRefusalFor, IsRefusedFor, IsGluedFrom, IsTriangulatedFrom};
-ghost use Rattle.veech_cli.specs.declared.command.Command.TheVariants.{Check};
+ghost use Rattle.tri_core.specs.declared.half.Half.{Half as HalfEdge};
+ghost use Rattle.veech_cli.specs.SurfaceFiles.{gluing_of, IsAccepted, IsTriangulationOf, IsRefused};
+ghost use Rattle.veech_cli.specs.Runs.{IsFileRefusal, IsRefusedFor, IsGluedFrom, IsTriangulatedFrom};
 ghost use Rattle.veech_cli.specs.declared.refusal.Refusal.TheVariants.{Memory};
 
 use super::refusal::Refusal;
@@ -12,27 +12,41 @@ use ear_cut::cut;
 use gluing::{Glued, glue};
 use quad_field::Field;
 use std::alloc::Global;
-use surface_text::read;
+use surface_text::{Point, read};
 use tri_core::Tri;
 
-/// The triangulation of the file that an input spells, with its field, or why there is none.
-pub(crate) fn triangulate(alloc: Global, input: &[u8]) -> Result<(Field, Tri), Refusal>
+/// The surface of a file: its field, its base points and its triangulation.
+#[derive(Drop)]
+pub(crate) struct Surface {
+    pub(crate) field: Field,
+    pub(crate) bases: Vec<Point>,
+    pub(crate) tri: Tri,
+}
+
+/// The surface of the file that an input spells, or why there is none.
+pub(crate) fn surface_of(alloc: Global, input: &[u8]) -> Result<Surface, Refusal>
     requires { length input.now ≤ 1048576 }
-    ensures made { IfOk result (λ made. IsTriangulatedFrom input.now made.0 made.1) }
-    ensures refusal { IfErr result (IsRefusalFor Check input.now) }
+    ensures field { IfOk result (λ surface. surface.field ≡ surface.tri.field) }
+    ensures made { IfOk result (λ surface. IsTriangulatedFrom input.now surface.bases.items surface.tri) }
+    // There is only one such file with one such triangulation.
+    ensures only { IfOk result (λ surface. (file : Content) (halves : List HalfEdge) → IsAccepted input.now file → IsTriangulationOf file halves
+        → (surface.tri.field ≡ file.field) × (surface.bases.items ≡ file.bases) × (surface.tri.halves ≡ halves)) }
+    ensures refusal { IfErr result (IsFileRefusal input.now) }
     ensures accepted { (file : Content) → IsAccepted input.now file → IfErr result (λ refusal. refusal ≡ Memory) }
     ensures refused { (cause line : ℕ) → IsRefused input.now cause line → IsRefusedFor cause line result }
 {
-    let (field, glued) = glued(alloc, input)?;
+    let (field, bases, glued) = glued(alloc, input)?;
     let tri = cut(alloc, &field, &glued)?;
-    Ok((field, tri))
+    Ok(Surface { field, bases, tri })
 }
 
-/// The glued polygons of the file that an input spells, with its field, or why there are none.
-fn glued(alloc: Global, input: &[u8]) -> Result<(Field, Glued), Refusal>
+/// The glued polygons of the file that an input spells, with its field and its base points, or why there are none.
+fn glued(alloc: Global, input: &[u8]) -> Result<(Field, Vec<Point>, Glued), Refusal>
     requires { length input.now ≤ 1048576 }
-    ensures made { IfOk result (λ made. IsGluedFrom input.now made.0 made.1) }
-    ensures refusal { IfErr result (IsRefusalFor Check input.now) }
+    ensures made { IfOk result (λ made. IsGluedFrom input.now made.0 made.1.items made.2) }
+    ensures only { IfOk result (λ made. (file : Content) → IsAccepted input.now file
+        → (made.0 ≡ file.field) × (made.1.items ≡ file.bases) × (made.2 ≡ gluing_of file)) }
+    ensures refusal { IfErr result (IsFileRefusal input.now) }
     ensures accepted { (file : Content) → IsAccepted input.now file → IfErr result (λ refusal. refusal ≡ Memory) }
     ensures refused { (cause line : ℕ) → IsRefused input.now cause line → IsRefusedFor cause line result }
 {
@@ -41,5 +55,5 @@ fn glued(alloc: Global, input: &[u8]) -> Result<(Field, Glued), Refusal>
         return Err(Refusal::Memory);
     };
     let glued = glue(alloc, &field, &file)?;
-    Ok((field, glued))
+    Ok((field, file.bases, glued))
 }

@@ -53,6 +53,18 @@ const TWO_SQUARES: &[u8] =
 const LARGE_TORUS: &[u8] =
     b"flat 1\nfield 997\npolygon 1000000000+1000000000r,0 0,1000000000+1000000000r -1000000000-1000000000r,0 0,-1000000000-1000000000r\nglue 0.1 0.3\nglue 0.2 0.0\nend\n";
 
+/// The square torus, sheared by 4.
+const SHEARED_TORUS: &[u8] =
+    b"flat 1\nfield 2\nbase 1/10 11/10\npolygon 1,0 4,1 -1,0 -4,-1\nglue 0.1 0.3\nglue 0.2 0.0\nend\n";
+
+/// What `base` writes for it.
+const SHEARED_BASE: &[u8] =
+    b"base 1/10 11/10\nflips 5\nhalf 0 -1,1 4\nhalf 1 0,-1 5\nhalf 2 1,0 3\nhalf 3 -1,0 2\nhalf 4 1,-1 0\nhalf 5 0,1 1\nend\n";
+
+/// What it writes for the square torus at 1/10 11/10.
+const TORUS_BASE: &[u8] =
+    b"base 1/10 11/10\nflips 1\nhalf 0 0,-1 4\nhalf 1 1,0 5\nhalf 2 -1,1 3\nhalf 3 1,-1 2\nhalf 4 0,1 0\nhalf 5 -1,0 1\nend\n";
+
 /// How the ends of a run behave: the most that a call moves, the source's call that fails, and the sink's room.
 #[derive(Clone, Copy)]
 struct Ends {
@@ -233,13 +245,33 @@ fn checks_every_example(rt: HostRuntime) -> Result<(), Fail> {
 
 #[test]
 fn refuses_words(rt: HostRuntime) -> Result<(), Fail> {
-    let rows: [&[&str]; 6] = [
+    let rows: [&[&str]; 26] = [
         &[],
         &["check", "check"],
         &["plan"],
         &["--help"],
         &["check "],
         &[""],
+        &["check", "--flips", "5"],
+        &["check", "--flips=5"],
+        &["base", "--flips", "0"],
+        &["base", "--flips", "01"],
+        &["base", "--flips", "1000001"],
+        &["base", "--flips", "-1"],
+        &["base", "--flips", "+5"],
+        &["base", "--flips", ""],
+        &["base", "--flips"],
+        &["base", "--flips="],
+        &["base", "--flips=0"],
+        &["base", "--flips=01"],
+        &["base", "--flips=1000001"],
+        &["base", "--flips", "5", "--flips", "5"],
+        &["base", "--flips=5", "--flips=5"],
+        &["base", "--flip", "5"],
+        &["base", "-f", "5"],
+        &["base", ""],
+        &["base", "5"],
+        &["--flips", "5", "base"],
     ];
     for words in rows {
         let (ended, written) = run(rt.alloc(), words, TORUS, moving(4096))?;
@@ -438,5 +470,67 @@ fn refuses_every_proper_prefix(rt: HostRuntime) -> Result<(), Fail> {
             line = line.wrapping_add(1);
         }
     }
+    Ok(())
+}
+
+#[test]
+fn finds_bases(rt: HostRuntime) -> Result<(), Fail> {
+    let alloc = rt.alloc();
+    let rows: [(&[&str], &[u8], u8, &[u8]); 12] = [
+        (
+            &["base", "--flips", "1"],
+            SHEARED_TORUS,
+            5,
+            b"fault flips 1/10 11/10\n",
+        ),
+        (
+            &["base", "--flips", "4"],
+            SHEARED_TORUS,
+            5,
+            b"fault flips 1/10 11/10\n",
+        ),
+        (&["base", "--flips", "5"], SHEARED_TORUS, 0, SHEARED_BASE),
+        (&["base", "--flips=5"], SHEARED_TORUS, 0, SHEARED_BASE),
+        (&["base", "--flips=1000000"], SHEARED_TORUS, 0, SHEARED_BASE),
+        (&["base"], SHEARED_TORUS, 0, SHEARED_BASE),
+        (&["base"], TORUS, 0, TORUS_BASE),
+        (
+            &["base"],
+            b"flat 1\nfield 2\nbase 0 1\npolygon 1,0 0,1 -1,0 0,-1\nglue 0.1 0.3\nglue 0.2 0.0\nend\n",
+            4,
+            b"fault strict 2\n",
+        ),
+        (
+            &["base"],
+            b"flat 1\nfield 2\nbase 0 1\nbase 1/10 11/10\npolygon 1,0 0,1 -1,0 0,-1\nglue 0.1 0.3\nglue 0.2 0.0\nend\n",
+            0,
+            TORUS_BASE,
+        ),
+        (
+            &["base"],
+            b"flat 1\nfield 2\nbase 1 1\npolygon 1,0 0,1 -1,0 0,-1\nglue 0.1 0.3\nglue 0.2 0.0\nend\n",
+            3,
+            b"fault file 9 3 BadBase\n",
+        ),
+        (&["base"], b"", 3, b"fault file 1 1 NoLine\n"),
+        (&["base"], LARGE_TORUS, 6, b"fault wide F2 flips 0 edge 0\n"),
+    ];
+    for (words, input, status, text) in rows {
+        for most in [1, 4096] {
+            let (ended, written) = run(alloc, words, input, moving(most))?;
+            assert_eq!(rt; ended, status);
+            assert_eq!(rt; written.as_slice(), text);
+        }
+    }
+    Ok(())
+}
+
+#[test]
+fn finds_the_base_of_three_squares(rt: HostRuntime) -> Result<(), Fail> {
+    let (ended, written) = run(rt.alloc(), &["base"], L_THREE_SQUARES, moving(4096))?;
+    assert_eq!(rt; ended, 0);
+    assert!(rt; written.starts_with(b"base 1/10 11/10\nflips 3\nhalf 0 "));
+    assert!(rt; written.ends_with(b"\nend\n"));
+    assert_eq!(rt; written.iter().filter(|byte| **byte == b'\n').count(), 21);
     Ok(())
 }

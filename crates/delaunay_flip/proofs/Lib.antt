@@ -1,0 +1,7 @@
+pub mod Fractions
+pub mod Triples
+pub mod Signs
+pub mod Flips
+pub mod Seeing
+pub mod Endings
+pub mod Listing

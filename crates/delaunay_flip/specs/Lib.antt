@@ -1,0 +1,5 @@
+pub mod Flipping
+pub mod Bases
+pub mod Answers
+pub mod Points
+pub mod Steps
