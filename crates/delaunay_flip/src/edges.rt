@@ -64,7 +64,7 @@ fn is_zero(sign: Sign) -> bool
     sign == Sign::Zero
 }
 
-/// The first of two, where there is one, else h where it is one.
+/// What was found before, or else h where it has what is looked for.
 fn least(before: Option<u32>, h: u32, has: bool) -> Option<u32>
     ensures { result ≡ or_this before h has }
 {
