@@ -1,9 +1,6 @@
 -- The vertices of a triangulation, and how often each is turned round.
-use Rattle.std.specs.Prelude.{◌≡◌, ◌↔◌, ℕ, zero, suc, ◌<◌, ◌≤◌, pos, ◌⊎◌, List, length, get_or, Contains}
-use Rattle.quad_field.specs.Quads.{quad_ops, IsPositive}
-use Rattle.quad_field.specs.declared.quad.Quad.{Quad}
+use Rattle.std.specs.Prelude.{◌≡◌, ◌↔◌, ℕ, zero, suc, ◌<◌, ◌≤◌, List, length, get_or, Contains}
 use Rattle.plane.specs.Halves.{IsUpper}
-use Rattle.plane.specs.Vectors.{Vector}
 use Rattle.tri_core.specs.declared.half.Half.{Half}
 use Rattle.tri_core.specs.HalfEdges.{vector_at, twin_at, previous_of}
 

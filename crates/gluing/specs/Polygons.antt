@@ -1,5 +1,5 @@
 -- Polygons, as the lists of their sides' vectors: when they are closed, flat and convex.
-use Rattle.std.specs.Prelude.{◌≡◌, ℕ, pos, ◌+◌, ◌%◌, ◌<◌, ◌⊎◌, List, [], ◌∷◌, length, map, get_or, slice_index_or}
+use Rattle.std.specs.Prelude.{◌≡◌, ℕ, pos, ◌+◌, ◌%◌, ◌<◌, List, [], ◌∷◌, length, map, get_or, slice_index_or}
 use Rattle.quad_field.specs.Quads.{quad_ops, IsPositive}
 use Rattle.quad_field.specs.declared.quad.Quad.{Quad}
 use Rattle.plane.specs.Halves.{IsUpper}

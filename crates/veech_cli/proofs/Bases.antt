@@ -1,5 +1,5 @@
 -- What the answers of the flipping say of an input.
-use Rattle.std.proofs.Common.{◌≡◌, ℕ, ◌⊎◌, inl, inr, List, [], ◌∷◌, ap, sym, ◌∙◌, subst, refl, arith, Result, Err}
+use Rattle.std.proofs.Common.{◌≡◌, ℕ, inl, inr, List, [], ◌∷◌, ap, sym, ◌∙◌, subst, refl, arith, Err}
 use Rattle.std.specs.Prelude.{Ok}
 use Rattle.std.specs.List.{AllByRecursion}
 use Rattle.surface_text.specs.Spelling.{Content}
@@ -9,16 +9,14 @@ use Rattle.tri_core.specs.declared.half.Half.{Half}
 use Rattle.tri_core.specs.Triangulation.{Triangulation}
 use Rattle.delaunay_flip.specs.declared.base.Base.{Base}
 use Rattle.delaunay_flip.specs.declared.base.BaseFault.{BaseFault}
-use Rattle.delaunay_flip.specs.declared.base.BaseFault.TheVariants as base_faults
 use Rattle.delaunay_flip.specs.Points.{standard_points}
 use Rattle.delaunay_flip.specs.Bases.{Ending, EndsListed}
-use Rattle.delaunay_flip.specs.Answers.{Says, IsForMemory, IsRight, IsComplete}
+use Rattle.delaunay_flip.specs.Answers.{Says, IsRight, IsComplete}
 use Rattle.delaunay_flip.proofs.Fractions.{within}
 use Rattle.veech_cli.specs.declared.command.Command.{Command}
 use Rattle.veech_cli.specs.declared.command.Command.TheVariants as commands
 use Rattle.veech_cli.specs.declared.refusal.Refusal.{Refusal}
 use Rattle.veech_cli.specs.declared.refusal.Refusal.TheVariants as refusals
-use Rattle.veech_cli.specs.declared.status.Status.{Status}
 use Rattle.veech_cli.specs.SurfaceFiles.{IsAccepted, IsTriangulationOf, IsRefused}
 use Rattle.veech_cli.specs.Endings.{or_standard, points_of, EndsFrom, status_of_ending}
 use Rattle.veech_cli.specs.Statuses.{status_of, HasBasePoint, refusal_of_base}

@@ -1,10 +1,9 @@
 -- Words name one command.
-use Rattle.std.proofs.Common.{◌≡◌, ℕ, ◌⊎◌, inl, inr, List, [], ◌∷◌, ◌++◌, codes, ap, sym, ◌∙◌, subst, refl, arith}
-use Rattle.plane.specs.Spelling.{natural_text}
+use Rattle.std.proofs.Common.{◌≡◌, ℕ, inl, inr, List, [], ◌∷◌, codes, ap, sym, ◌∙◌, refl}
 use Rattle.plane.proofs.Naturals.{natural_text_injective}
 use Rattle.veech_cli.specs.declared.command.Command.{Command}
 use Rattle.veech_cli.specs.declared.command.Command.TheVariants.{Check, Base}
-use Rattle.veech_cli.specs.Commands.{Names, AreTaken, IsFlipCount}
+use Rattle.veech_cli.specs.Commands.{Names}
 
 -- the second and the third of some words
 second : List (List ℕ) → List ℕ

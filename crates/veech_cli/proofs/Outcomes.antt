@@ -1,6 +1,6 @@
 -- What follows of an outcome: how a refusal of an end reaches the run, and that the answer is complete.
 use Rattle.std.proofs.Common.{◌≡◌, ℕ, zero, suc, ◌+◌, ◌<◌, ◌≤◌, ◌⊎◌, inl, inr, List, [], ◌∷◌, length, ap, refl, sym, ◌∙◌, subst, arith, Option, Some, None, Result, Err, ◌↔◌}
-use Rattle.std.specs.Prelude.{IfSome, IsErrOf, IfErr, MatchResult, Ok}
+use Rattle.std.specs.Prelude.{IfSome, IsErrOf, IfErr, Ok}
 use Rattle.io_ends.specs.Ends.{given}
 use Rattle.io_ends.specs.declared.reading.ReadAll.{ReadAll}
 use Rattle.io_ends.specs.declared.reading.ReadAll.TheVariants as read_faults
@@ -10,8 +10,8 @@ use Rattle.veech_cli.specs.declared.command.Command.TheVariants.{Check, Base}
 use Rattle.veech_cli.specs.declared.refusal.Refusal.{Refusal}
 use Rattle.veech_cli.specs.declared.refusal.Refusal.TheVariants as refusals
 use Rattle.veech_cli.specs.declared.status.Status.{Status}
-use Rattle.veech_cli.specs.declared.status.Status.TheVariants.{Done, Words, File, ReadFault, WriteFault, Memory}
-use Rattle.veech_cli.specs.Commands.{Names, AreTaken}
+use Rattle.veech_cli.specs.declared.status.Status.TheVariants.{Done, Words, File, WriteFault, Memory}
+use Rattle.veech_cli.specs.Commands.{AreTaken}
 use Rattle.veech_cli.specs.Statuses.{status_of, refusal_of_reading}
 use Rattle.veech_cli.specs.SurfaceFiles.{IsAccepted, IsTriangulationOf, IsRefused, too_long, text_refused, not_glued}
 use Rattle.surface_text.specs.declared.file.Point.{Point}

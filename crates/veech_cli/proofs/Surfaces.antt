@@ -1,5 +1,5 @@
 -- What the refusals of the text and of the gluing say of an input.
-use Rattle.std.proofs.Common.{◌≡◌, ℕ, ◌≤◌, ◌⊎◌, inl, inr, List, length, ap, sym, subst, refl, arith}
+use Rattle.std.proofs.Common.{◌≡◌, ℕ, ◌≤◌, ◌⊎◌, inl, inr, List, length, ap, sym, subst, arith}
 use Rattle.surface_text.specs.Spelling.{Content, text}
 use Rattle.surface_text.specs.Limits.{IsWithinLimits}
 use Rattle.surface_text.specs.Causes.{IsRefused as IsTextRefused}

@@ -1,5 +1,5 @@
 -- What a run of the program settles on, and what it hands out.
-use Rattle.std.specs.Prelude.{◌≡◌, ℕ, ◌<◌, ◌⊎◌, List, [], length, take, IfSome, Result, IfErr, MatchResult, ⊤}
+use Rattle.std.specs.Prelude.{◌≡◌, ℕ, ◌<◌, ◌⊎◌, List, [], length, take, IfSome, Result, MatchResult, ⊤}
 use Rattle.std.specs.Option.{option_map}
 use Rattle.std.specs.declared.option.Option.{Option}
 use Rattle.io_ends.specs.Ends.{given, taken_after}

@@ -1,5 +1,5 @@
 -- Which inputs are accepted as surface files, what they are cut into, and why others are refused.
-use Rattle.std.specs.Prelude.{◌≡◌, ℕ, ◌<◌, ◌≤◌, ◌⊎◌, List, length}
+use Rattle.std.specs.Prelude.{◌≡◌, ℕ, ◌<◌, ◌≤◌, List, length}
 use Rattle.surface_text.specs.Spelling.{Content, text}
 use Rattle.surface_text.specs.Limits.{IsWithinLimits}
 use Rattle.surface_text.specs.Causes.{IsRefused as IsTextRefused}

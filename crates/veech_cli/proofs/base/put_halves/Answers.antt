@@ -1,4 +1,4 @@
-use Rattle.std.proofs.Common.{length, arith}
+use Rattle.std.proofs.Common.{arith}
 use Rattle.veech_cli.proofs.Lines.{one_line, all_lines}
 use Rattle.veech_cli.proofs.base.put_halves.Goals as goal
 

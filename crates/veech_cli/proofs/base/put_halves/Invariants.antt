@@ -1,4 +1,4 @@
-use Rattle.std.proofs.Common.{◌≡◌, ◌++◌, ◌≤◌, take, length}
+use Rattle.std.proofs.Common.{◌≡◌, ◌++◌, take, length}
 use Rattle.std.specs.List.{flat_map, range_with_len}
 use Rattle.tri_core.specs.HalfEdges.{half_at}
 use Rattle.veech_cli.specs.Texts.{half_text}
