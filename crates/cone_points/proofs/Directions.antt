@@ -4,7 +4,7 @@ use Rattle.std.specs.Prelude.{pos, ◌⊎◌}
 use mathlib.Core.Logic.{inl, inr}
 use Rattle.rings.specs.Ring.{Ops, IsRing, var, expr}
 use Rattle.rings.specs.Order.{IsOrdered, Sign, is_zero, is_positive, is_negative, IsNotNegative}
-use Rattle.rings.specs.Forms.{determinant}
+use Rattle.rings.specs.Forms.{det as determinant}
 use Rattle.rings.proofs.Solver.{identity}
 use Rattle.rings.proofs.Ordered.{not_both_signs, sum_more, product_not_negative, factor}
 open expr use {add as ◌+'◌, sub as ◌-'◌, mul as ◌*'◌, neg as neg', int as int'}

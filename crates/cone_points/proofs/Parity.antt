@@ -3,7 +3,6 @@ use Rattle.std.proofs.Common.{◌≡◌, ℕ, zero, suc, ◌+◌, ◌*◌, ◌/�
 use Rattle.std.specs.Prelude.{◌⊎◌, nat_lt, ℤ, pos, negsuc, neg_ℤ}
 use mathlib.Core.Logic.{inl, inr}
 use Rattle.rings.specs.Ring.{Ops, var, expr}
-use Rattle.rings.specs.Forms.{determinant}
 use Rattle.rings.proofs.Solver.{identity}
 use Rattle.quad_field.specs.Quads.{quad, quad_ops, IsPositive}
 use Rattle.quad_field.specs.declared.quad.Quad.{Quad}
@@ -293,15 +292,15 @@ module _ (d : ℕ) where
   -- three vectors that sum to zero, one of which is zero, don't turn
   flat : (u v w : Quad × Quad) → vector_sum O (vector_sum O u v) w ≡ (nought, nought) → (u ≡ (nought, nought)) ⊎ (v ≡ (nought, nought)) ⊎ (w ≡ (nought, nought)) → det O u v ≡ nought
   flat u v w closed (inl e) =
-      ap (λ z. det O z v) e ∙ identity O (quad_ring d) (v.0 ∷ v.1 ∷ []) (determinant expr (expr.int (pos 0), expr.int (pos 0)) (var 0, var 1)) (expr.int (pos 0)) tt
+      ap (λ z. det O z v) e ∙ identity O (quad_ring d) (v.0 ∷ v.1 ∷ []) (det expr (expr.int (pos 0), expr.int (pos 0)) (var 0, var 1)) (expr.int (pos 0)) tt
   flat u v w closed (inr (inl e)) =
-      ap (det O u) e ∙ identity O (quad_ring d) (u.0 ∷ u.1 ∷ []) (determinant expr (var 0, var 1) (expr.int (pos 0), expr.int (pos 0))) (expr.int (pos 0)) tt
+      ap (det O u) e ∙ identity O (quad_ring d) (u.0 ∷ u.1 ∷ []) (det expr (var 0, var 1) (expr.int (pos 0), expr.int (pos 0))) (expr.int (pos 0)) tt
   flat u v w closed (inr (inr e)) =
-      identity O (quad_ring d) (u.0 ∷ u.1 ∷ v.0 ∷ v.1 ∷ w.0 ∷ w.1 ∷ []) (determinant expr (var 0, var 1) (var 2, var 3))
-      (expr.sub (determinant expr (var 0, var 1) (expr.add (expr.add (var 0) (var 2)) (var 4), expr.add (expr.add (var 1) (var 3)) (var 5))) (determinant expr (var 0, var 1) (var 4, var 5))) tt
+      identity O (quad_ring d) (u.0 ∷ u.1 ∷ v.0 ∷ v.1 ∷ w.0 ∷ w.1 ∷ []) (det expr (var 0, var 1) (var 2, var 3))
+      (expr.sub (det expr (var 0, var 1) (expr.add (expr.add (var 0) (var 2)) (var 4), expr.add (expr.add (var 1) (var 3)) (var 5))) (det expr (var 0, var 1) (var 4, var 5))) tt
       ∙ ap (λ z. O.sub (det O u z) (det O u w)) closed ∙ ap (λ z. O.sub (det O u (nought, nought)) (det O u z)) e
       ∙ identity O (quad_ring d) (u.0 ∷ u.1 ∷ [])
-      (expr.sub (determinant expr (var 0, var 1) (expr.int (pos 0), expr.int (pos 0))) (determinant expr (var 0, var 1) (expr.int (pos 0), expr.int (pos 0)))) (expr.int (pos 0)) tt
+      (expr.sub (det expr (var 0, var 1) (expr.int (pos 0), expr.int (pos 0))) (det expr (var 0, var 1) (expr.int (pos 0), expr.int (pos 0)))) (expr.int (pos 0)) tt
 
   pub own_twin : (halves : List Half) → IsTriangulation d halves → (h : ℕ) → h < length halves → ¬ (twin_at halves h ≡ h)
   own_twin halves valid h inside e = zero_not_positive (subst (IsPositive d) (flat first second third (valid.closed (h / 3) there) (which (h % 3) refl)) (valid.turns (h / 3) there))

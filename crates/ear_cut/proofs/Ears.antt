@@ -7,7 +7,6 @@ use Rattle.std.proofs.lemmas.Bool.{cases_lt}
 use Rattle.std.proofs.lemmas.List.{append_assoc, length-append}
 use Rattle.rings.specs.Ring.{Ops, IsRing, var, expr}
 use Rattle.rings.specs.Order.{IsOrdered, Sign, is_zero, is_positive, is_negative}
-use Rattle.rings.specs.Forms.{determinant}
 use Rattle.rings.proofs.Solver.{identity}
 use Rattle.rings.proofs.Ordered.{not_both_signs}
 use Rattle.quad_field.specs.Quads.{quad_ops, IsPositive}
@@ -81,8 +80,8 @@ module _ (d : ℕ) (field : IsFieldNumber d) where
   adjacent : (l : List Vec) → Convex l → (p q : List Vec) (u v : Vec) → l ≡ p ++ (u ∷ v ∷ q) → NN O ring order (det O u v)
   adjacent l convex p q u v e =
       subst (NN O ring order)
-      (identity O ring (u.0 ∷ u.1 ∷ v.0 ∷ v.1 ∷ []) (determinant expr (expr.add (var 0) (expr.int (pos 0)), expr.add (var 1) (expr.int (pos 0))) (expr.add (var 2) (expr.int (pos 0)), expr.add (var 3) (expr.int (pos 0))))
-      (determinant expr (var 0, var 1) (var 2, var 3)) tt)
+      (identity O ring (u.0 ∷ u.1 ∷ v.0 ∷ v.1 ∷ []) (det expr (expr.add (var 0) (expr.int (pos 0)), expr.add (var 1) (expr.int (pos 0))) (expr.add (var 2) (expr.int (pos 0)), expr.add (var 3) (expr.int (pos 0))))
+      (det expr (var 0, var 1) (var 2, var 3)) tt)
       (convex p (u ∷ []) (v ∷ []) q e)
 
   -- and round the end
@@ -185,9 +184,9 @@ module _ (d : ℕ) (field : IsFieldNumber d) where
   sum_nonzero : (u v : Vec) → IsPositive d (det O u v) → ¬ (vector_sum O u v ≡ no_vector d)
   sum_nonzero u v h e =
       positive_nonzero (det O u v) h (
-      identity O ring (u.0 ∷ u.1 ∷ v.0 ∷ v.1 ∷ []) (determinant expr (var 0, var 1) (var 2, var 3)) (determinant expr (var 0, var 1) (expr.add (var 0) (var 2), expr.add (var 1) (var 3))) tt
+      identity O ring (u.0 ∷ u.1 ∷ v.0 ∷ v.1 ∷ []) (det expr (var 0, var 1) (var 2, var 3)) (det expr (var 0, var 1) (expr.add (var 0) (var 2), expr.add (var 1) (var 3))) tt
       ∙ ap (det O u) e
-      ∙ identity O ring (u.0 ∷ u.1 ∷ []) (determinant expr (var 0, var 1) (expr.int (pos 0), expr.int (pos 0))) (expr.int (pos 0)) tt
+      ∙ identity O ring (u.0 ∷ u.1 ∷ []) (det expr (var 0, var 1) (expr.int (pos 0), expr.int (pos 0))) (expr.int (pos 0)) tt
       )
 
   -- where cutting at u and v leaves nothing but parallel sides, the next two sides turn to the left

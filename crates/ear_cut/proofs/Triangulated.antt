@@ -4,7 +4,6 @@ use Rattle.std.specs.List.{AllByRecursion}
 use Rattle.std.proofs.lemmas.Bool.{cases_eq}
 use Rattle.std.proofs.lemmas.List.{length-map, get_or-map, get_or_default}
 use Rattle.rings.specs.Ring.{var, expr}
-use Rattle.rings.specs.Forms.{determinant}
 use Rattle.rings.proofs.Solver.{identity}
 use Rattle.rings.proofs.Ordered.{not_both_signs}
 use Rattle.quad_field.specs.declared.quad.Quad.{Quad}
@@ -56,13 +55,13 @@ opposite_twice d u =
 not_first : (d : ℕ) → IsFieldNumber d → (u v : Vector Quad) → IsPositive d (det (quad_ops d) u v) → ¬ (u ≡ opposite_vector (quad_ops d) u)
 not_first d field u v turns e =
     let O = quad_ops d in
-    let back = identity O (quad_ring d) (u.0 ∷ u.1 ∷ v.0 ∷ v.1 ∷ []) (determinant expr (expr.neg (var 0), expr.neg (var 1)) (var 2, var 3)) (expr.neg (determinant expr (var 0, var 1) (var 2, var 3))) tt in
+    let back = identity O (quad_ring d) (u.0 ∷ u.1 ∷ v.0 ∷ v.1 ∷ []) (det expr (expr.neg (var 0), expr.neg (var 1)) (var 2, var 3)) (expr.neg (det expr (var 0, var 1) (var 2, var 3))) tt in
     not_both_signs O (quad_ring d) (quad_order d field.2 field.0) (det O u v) turns (subst (IsPositive d) (ap (λ w. det O w v) e ∙ back) turns)
 
 not_second : (d : ℕ) → IsFieldNumber d → (u v : Vector Quad) → IsPositive d (det (quad_ops d) u v) → ¬ (v ≡ opposite_vector (quad_ops d) u)
 not_second d field u v turns e =
     let O = quad_ops d in
-    let none = identity O (quad_ring d) (u.0 ∷ u.1 ∷ []) (determinant expr (var 0, var 1) (expr.neg (var 0), expr.neg (var 1))) (expr.int (pos 0)) tt in
+    let none = identity O (quad_ring d) (u.0 ∷ u.1 ∷ []) (det expr (var 0, var 1) (expr.neg (var 0), expr.neg (var 1))) (expr.int (pos 0)) tt in
     (quad_order d field.2 field.0).zero_is_not (subst (IsPositive d) (ap (det O u) e ∙ none) turns)
 
 not_third : (d : ℕ) → IsFieldNumber d → (u v w : Vector Quad) → IsPositive d (det (quad_ops d) u v) → vector_sum (quad_ops d) (vector_sum (quad_ops d) u v) w ≡ no_vector d → ¬ (w ≡ opposite_vector (quad_ops d) u)
@@ -70,8 +69,8 @@ not_third d field u v w turns closed e =
     let O = quad_ops d in
     let x = expr.add (expr.add (var 0) (var 2)) (expr.neg (var 0)) in
     let y = expr.add (expr.add (var 1) (var 3)) (expr.neg (var 1)) in
-    let same = identity O (quad_ring d) (u.0 ∷ u.1 ∷ v.0 ∷ v.1 ∷ []) (determinant expr (var 0, var 1) (var 2, var 3)) (determinant expr (var 0, var 1) (x, y)) tt in
-    let none = identity O (quad_ring d) (u.0 ∷ u.1 ∷ []) (determinant expr (var 0, var 1) (expr.int (pos 0), expr.int (pos 0))) (expr.int (pos 0)) tt in
+    let same = identity O (quad_ring d) (u.0 ∷ u.1 ∷ v.0 ∷ v.1 ∷ []) (det expr (var 0, var 1) (var 2, var 3)) (det expr (var 0, var 1) (x, y)) tt in
+    let none = identity O (quad_ring d) (u.0 ∷ u.1 ∷ []) (det expr (var 0, var 1) (expr.int (pos 0), expr.int (pos 0))) (expr.int (pos 0)) tt in
     (quad_order d field.2 field.0).zero_is_not
     (subst (IsPositive d) (same ∙ ap (λ z. det O u (vector_sum O (vector_sum O u v) z)) (sym e) ∙ ap (det O u) closed ∙ none) turns)
 

@@ -5,7 +5,7 @@ use Rattle.std.specs.List.{AllByRecursion}
 use mathlib.Core.Logic.{inl, inr}
 use Rattle.rings.specs.Ring.{Ops, IsRing, var, expr}
 use Rattle.rings.specs.Order.{IsOrdered, Sign, is_zero, is_positive, is_negative, IsNotNegative}
-use Rattle.rings.specs.Forms.{determinant}
+use Rattle.rings.specs.Forms.{det as determinant}
 use Rattle.rings.proofs.Solver.{identity}
 use Rattle.rings.proofs.Ordered.{not_both_signs, product_negative, product_not_negative, sum_not_negative}
 use Rattle.std.proofs.lemmas.List.{append_assoc}

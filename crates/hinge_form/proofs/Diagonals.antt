@@ -1,6 +1,6 @@
 -- The hinge of the new diagonal after a flip.
 use Rattle.std.proofs.Common.{◌≡◌, ◌≢◌, ℕ, ◌==◌, if◌then◌else◌, ◌<◌, List, length, refl, sym, ◌∙◌, ap, subst, arith}
-use Rattle.rings.specs.Forms.{determinant, three_row_determinant}
+use Rattle.rings.specs.Forms.{det, three_row_determinant}
 use Rattle.quad_field.specs.declared.quad.Quad.{Quad}
 use Rattle.quad_field.specs.FieldNumber.{IsFieldNumber}
 use Rattle.quad_field.specs.Quads.{quad_ops, IsPositive}
@@ -40,7 +40,7 @@ module _ (d : ℕ) (halves later : List Half) (h : ℕ) (field : IsFieldNumber d
   -- no vector turns to the left into its opposite
   not_opposite : (u v w : Vector Quad) → IsTriple d u v w → ¬ (v ≡ opposite_vector (quad_ops d) u)
   not_opposite u v w t e =
-      (order_of d field).zero_is_not (subst (IsPositive d) (ap (determinant (quad_ops d) u) e ∙ opposite_flat (quad_ops d) (quad_ring d) u) t.turns)
+      (order_of d field).zero_is_not (subst (IsPositive d) (ap (det (quad_ops d) u) e ∙ opposite_flat (quad_ops d) (quad_ring d) u) t.turns)
 
   -- the twin is no side of the same triangle
   next_not_twin : next_of h ≢ g

@@ -2,7 +2,7 @@
 use Rattle.std.proofs.Common.{◌≡◌, ℕ, zero, suc, ◌<◌, ◌≤◌, List, length, sym, ◌∙◌, ap, subst, arith}
 use Rattle.std.specs.Prelude.{pos}
 use Rattle.rings.specs.Order.{IsOrdered}
-use Rattle.rings.specs.Forms.{determinant, value_at, three_row_determinant}
+use Rattle.rings.specs.Forms.{det, value_at, three_row_determinant}
 use Rattle.rings.proofs.Forms as forms
 use Rattle.quad_field.specs.declared.quad.Quad.{Quad}
 use Rattle.quad_field.specs.FieldNumber.{IsFieldNumber}
@@ -60,10 +60,10 @@ module _ (d : ℕ) (halves : List Half) (h : ℕ) (valid : IsTriangulation d hal
   behind_is = triple_third d (opposite_vector (quad_ops d) a) e r twin_triple
 
   -- det(a, c) and det(d, a) are positive
-  pub first_positive : IsPositive d (determinant (quad_ops d) (hinge_a halves h) (hinge_c d halves h))
+  pub first_positive : IsPositive d (det (quad_ops d) (hinge_a halves h) (hinge_c d halves h))
   first_positive = subst (IsPositive d) (sym (determinant_opposite_second (quad_ops d) (quad_ring d) a p)) turned_triple.turns
 
-  pub second_positive : IsPositive d (determinant (quad_ops d) (hinge_d halves h) (hinge_a halves h))
+  pub second_positive : IsPositive d (det (quad_ops d) (hinge_d halves h) (hinge_a halves h))
   second_positive = subst (IsPositive d) (determinant_opposite_first (quad_ops d) (quad_ring d) a e) twin_triple.turns
 
   -- one value from both ends

@@ -3,7 +3,6 @@ use Rattle.std.proofs.Common.{◌≡◌, ℕ, [], ◌∷◌, ◌+◌, ◌*◌, �
 use Rattle.std.specs.Prelude.{pos}
 use Rattle.std.proofs.lemmas.Bool.{cases_eq}
 use Rattle.rings.specs.Ring.{Ops, IsRing, Expr, var, expr}
-use Rattle.rings.specs.Forms.{determinant}
 use Rattle.rings.proofs.Solver.{identity}
 use Rattle.quad_field.specs.declared.quad.Quad.{Quad}
 use Rattle.quad_field.specs.Quads.{quad_ops, IsPositive}
@@ -40,19 +39,19 @@ module _ {R : Type 0} (O : Ops R) (L : IsRing O) where
       one a b c = identity O L (a ∷ b ∷ c ∷ []) (expr.add (expr.add (var 1) (var 2)) (var 0)) (expr.add (expr.add (var 0) (var 1)) (var 2)) tt
 
   -- det(v, w) = det(u, v) + det(v, u + v + w)
-  determinant_turned : (u v w : Vector R) → determinant O v w ≡ O.add (determinant O u v) (determinant O v (vector_sum O (vector_sum O u v) w))
+  determinant_turned : (u v w : Vector R) → det O v w ≡ O.add (det O u v) (det O v (vector_sum O (vector_sum O u v) w))
   determinant_turned u v w =
-      identity O L (u.0 ∷ u.1 ∷ v.0 ∷ v.1 ∷ w.0 ∷ w.1 ∷ []) (determinant expr v' w')
-      (expr.add (determinant expr u' v') (determinant expr v' (vector_sum expr (vector_sum expr u' v') w'))) tt
+      identity O L (u.0 ∷ u.1 ∷ v.0 ∷ v.1 ∷ w.0 ∷ w.1 ∷ []) (det expr v' w')
+      (expr.add (det expr u' v') (det expr v' (vector_sum expr (vector_sum expr u' v') w'))) tt
 
   -- x + det(v, 0) = x
-  no_determinant : (x : R) (v : Vector R) → O.add x (determinant O v (zero_vector O)) ≡ x
-  no_determinant x v = identity O L (x ∷ v.0 ∷ v.1 ∷ []) (expr.add (var 0) (determinant expr (var 1, var 2) (zero_vector expr))) (var 0) tt
+  no_determinant : (x : R) (v : Vector R) → O.add x (det O v (zero_vector O)) ≡ x
+  no_determinant x v = identity O L (x ∷ v.0 ∷ v.1 ∷ []) (expr.add (var 0) (det expr (var 1, var 2) (zero_vector expr))) (var 0) tt
 
   -- in a closed triangle det(v, w) = det(u, v)
-  next_determinant : (u v w : Vector R) → vector_sum O (vector_sum O u v) w ≡ zero_vector O → determinant O v w ≡ determinant O u v
+  next_determinant : (u v w : Vector R) → vector_sum O (vector_sum O u v) w ≡ zero_vector O → det O v w ≡ det O u v
   next_determinant u v w closed =
-      determinant_turned u v w ∙ ap (λ (s : Vector R). O.add (determinant O u v) (determinant O v s)) closed ∙ no_determinant (determinant O u v) v
+      determinant_turned u v w ∙ ap (λ (s : Vector R). O.add (det O u v) (det O v s)) closed ∙ no_determinant (det O u v) v
 
   -- and w = -(u + v)
   third_of_closed : (u v w : Vector R) → vector_sum O (vector_sum O u v) w ≡ zero_vector O → w ≡ third_side O u v
@@ -75,8 +74,8 @@ module _ {R : Type 0} (O : Ops R) (L : IsRing O) where
       one a = identity O L (a ∷ []) (expr.neg (expr.neg (var 0))) (var 0) tt
 
   -- det(u, -u) = 0
-  pub opposite_flat : (u : Vector R) → determinant O u (opposite_vector O u) ≡ O.int (pos 0)
-  opposite_flat u = identity O L (u.0 ∷ u.1 ∷ []) (determinant expr u' (opposite_vector expr u')) (expr.int (pos 0)) tt
+  pub opposite_flat : (u : Vector R) → det O u (opposite_vector O u) ≡ O.int (pos 0)
+  opposite_flat u = identity O L (u.0 ∷ u.1 ∷ []) (det expr u' (opposite_vector expr u')) (expr.int (pos 0)) tt
 
 -- the vectors of a triangle: they sum to zero, and the first turns to the left into the second
 pub record IsTriple (d : ℕ) (u v w : Vector Quad) : Type 0 where

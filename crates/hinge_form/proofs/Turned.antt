@@ -2,7 +2,7 @@
 use Rattle.std.proofs.Common.{◌≡◌, [], ◌∷◌}
 use Rattle.std.specs.Prelude.{pos}
 use Rattle.rings.specs.Ring.{Ops, IsRing, Expr, var, expr}
-use Rattle.rings.specs.Forms.{determinant, length_by, three_row_determinant, value_at}
+use Rattle.rings.specs.Forms.{det, length_by, three_row_determinant, value_at}
 use Rattle.rings.proofs.Solver.{identity}
 use Rattle.plane.specs.Vectors.{Vector, vector_sum, opposite_vector}
 
@@ -48,20 +48,20 @@ module _ {R : Type 0} (O : Ops R) (L : IsRing O) where
       (expr.neg (three_row_determinant expr q' a' (opposite_vector expr p') d')) tt
 
   -- with A = det(a, c) and C = det(d, a): A·C·(A + C) where a has no length
-  pub flat_value : (a c d : Vector R) → let A = determinant O a c in let C = determinant O d a in
+  pub flat_value : (a c d : Vector R) → let A = det O a c in let C = det O d a in
       three_row_determinant O (flat_place O a) a c d ≡ O.mul (O.mul A C) (O.add A C)
   flat_value a c d =
-      let A = determinant expr a' p' in let C = determinant expr d' a' in
+      let A = det expr a' p' in let C = det expr d' a' in
       identity O L (a.0 ∷ a.1 ∷ c.0 ∷ c.1 ∷ d.0 ∷ d.1 ∷ []) (three_row_determinant expr (flat_place expr a') a' p' d')
       (expr.mul (expr.mul A C) (expr.add A C)) tt
 
   -- the value as A·len(d) + C·len(c) + (-B)·len(a)
   pub value_as_sum : (q : R × R × R) (a c d : Vector R) →
-      O.add (O.add (O.mul (determinant O a c) (length_by O q d)) (O.mul (determinant O d a) (length_by O q c))) (O.mul (O.neg (determinant O d c)) (length_by O q a))
+      O.add (O.add (O.mul (det O a c) (length_by O q d)) (O.mul (det O d a) (length_by O q c))) (O.mul (O.neg (det O d c)) (length_by O q a))
       ≡ three_row_determinant O q a c d
   value_as_sum q a c d =
       identity O L (a.0 ∷ a.1 ∷ c.0 ∷ c.1 ∷ d.0 ∷ d.1 ∷ q.0 ∷ q.1 ∷ q.2 ∷ [])
-      (expr.add (expr.add (expr.mul (determinant expr a' p') (length_by expr q' d')) (expr.mul (determinant expr d' a') (length_by expr q' p'))) (expr.mul (expr.neg (determinant expr d' p')) (length_by expr q' a')))
+      (expr.add (expr.add (expr.mul (det expr a' p') (length_by expr q' d')) (expr.mul (det expr d' a') (length_by expr q' p'))) (expr.mul (expr.neg (det expr d' p')) (length_by expr q' a')))
       (three_row_determinant expr q' a' p' d') tt
 
   -- a form of zeros has the value zero
@@ -76,9 +76,9 @@ module _ {R : Type 0} (O : Ops R) (L : IsRing O) where
       (expr.mul (var 0) (value_at expr (var 1, var 2, var 3) (var 4, var 5, var 6))) tt
 
   -- det(u, -v) = det(v, u)
-  pub determinant_opposite_second : (u v : Vector R) → determinant O u (opposite_vector O v) ≡ determinant O v u
-  determinant_opposite_second u v = identity O L (u.0 ∷ u.1 ∷ v.0 ∷ v.1 ∷ []) (determinant expr a' (opposite_vector expr p')) (determinant expr p' a') tt
+  pub determinant_opposite_second : (u v : Vector R) → det O u (opposite_vector O v) ≡ det O v u
+  determinant_opposite_second u v = identity O L (u.0 ∷ u.1 ∷ v.0 ∷ v.1 ∷ []) (det expr a' (opposite_vector expr p')) (det expr p' a') tt
 
   -- det(-u, v) = det(v, u)
-  pub determinant_opposite_first : (u v : Vector R) → determinant O (opposite_vector O u) v ≡ determinant O v u
-  determinant_opposite_first u v = identity O L (u.0 ∷ u.1 ∷ v.0 ∷ v.1 ∷ []) (determinant expr (opposite_vector expr a') p') (determinant expr p' a') tt
+  pub determinant_opposite_first : (u v : Vector R) → det O (opposite_vector O u) v ≡ det O v u
+  determinant_opposite_first u v = identity O L (u.0 ∷ u.1 ∷ v.0 ∷ v.1 ∷ []) (det expr (opposite_vector expr a') p') (det expr p' a') tt

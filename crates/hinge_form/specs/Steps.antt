@@ -1,12 +1,12 @@
 -- The triple of a hinge in two steps: three vectors times a determinant each, and the differences of their products.
 use Rattle.std.specs.Prelude.{pos}
 use Rattle.rings.specs.Ring.{Ops}
-use Rattle.rings.specs.Forms.{determinant}
+use Rattle.rings.specs.Forms.{det}
 use Rattle.plane.specs.Vectors.{Vector}
 
 -- det(u, v)·w
 abbrev pub turn_times : {R : Type 0} → Ops R → Vector R → Vector R → Vector R → Vector R
-turn_times O u v w = (O.mul (determinant O u v) w.0, O.mul (determinant O u v) w.1)
+turn_times O u v w = (O.mul (det O u v) w.0, O.mul (det O u v) w.1)
 
 -- (p·u - q·v) - r·w
 abbrev pub difference_of_products : {R : Type 0} → Ops R → R → R → R → R → R → R → R

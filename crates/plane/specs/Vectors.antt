@@ -1,7 +1,7 @@
 -- Vectors of the plane and their determinant, written once over the operations of a ring.
 use Rattle.std.specs.Prelude.{ℕ}
 use Rattle.quad_field.specs.Ring.{Ops}
-use Rattle.quad_field.specs.Forms.{determinant}
+pub use Rattle.quad_field.specs.Forms.{det}
 use Rattle.quad_field.specs.Width.{Term, number, StepsFit}
 use Rattle.plane.specs.declared.vec2.Vec2.{Vec2}
 use Rattle.quad_field.specs.declared.quad.Quad.{Quad}
@@ -9,10 +9,6 @@ use Rattle.quad_field.specs.declared.quad.Quad.{Quad}
 -- a vector (s, t) over a ring
 abbrev pub Vector : Type 0 → Type 0
 Vector R = R × R
-
--- det(u, v) = u.s·v.t - u.t·v.s, the determinant of two vectors
-abbrev pub det : {R : Type 0} → Ops R → Vector R → Vector R → R
-det O u v = determinant O u v
 
 -- u + v
 abbrev pub vector_sum : {R : Type 0} → Ops R → Vector R → Vector R → Vector R

@@ -2,7 +2,7 @@
 //! function that does nothing.
 
 ghost use Rattle.std.specs.Prelude.{◌≡◌, ℕ, pos};
-ghost use Rattle.rings.specs.Forms.{determinant, length_by, inner_value, value_at, three_row_determinant, hinge_triple, discriminant, chord_point as chord, upright_chord_point};
+ghost use Rattle.rings.specs.Forms.{det as determinant, length_by, inner_value, value_at, three_row_determinant, hinge_triple, discriminant, chord_point as chord, upright_chord_point};
 ghost use Rattle.quad_field.specs.Quads.{quad_ops};
 ghost use Rattle.quad_field.specs.declared.quad.Quad.{Quad};
 

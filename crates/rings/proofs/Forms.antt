@@ -2,7 +2,7 @@
 use Rattle.std.proofs.Common.{◌≡◌, [], ◌∷◌}
 use Rattle.std.specs.Prelude.{pos}
 use Rattle.rings.specs.Ring.{Ops, IsRing, Expr, var, expr}
-use Rattle.rings.specs.Forms.{determinant, length_by, inner_value, value_at, three_row_determinant, hinge_triple, discriminant, chord_point, upright_chord_point}
+use Rattle.rings.specs.Forms.{det, length_by, inner_value, value_at, three_row_determinant, hinge_triple, discriminant, chord_point, upright_chord_point}
 use Rattle.rings.proofs.Solver.{identity}
 
 -- the vectors and the form of the first variables
@@ -23,16 +23,16 @@ l' = (var 0, var 1, var 2)
 
 module _ {R : Type 0} (O : Ops R) (L : IsRing O) where
   -- det(u, v)·w = det(w, v)·u + det(u, w)·v, its first coordinate
-  pub three_vectors_first : (u v w : R × R) → O.mul (determinant O u v) w.0 ≡ O.add (O.mul (determinant O w v) u.0) (O.mul (determinant O u w) v.0)
+  pub three_vectors_first : (u v w : R × R) → O.mul (det O u v) w.0 ≡ O.add (O.mul (det O w v) u.0) (O.mul (det O u w) v.0)
   three_vectors_first u v w =
       identity O L (u.0 ∷ u.1 ∷ v.0 ∷ v.1 ∷ w.0 ∷ w.1 ∷ [])
-      (expr.mul (determinant expr u' v') w'.0) (expr.add (expr.mul (determinant expr w' v') u'.0) (expr.mul (determinant expr u' w') v'.0)) tt
+      (expr.mul (det expr u' v') w'.0) (expr.add (expr.mul (det expr w' v') u'.0) (expr.mul (det expr u' w') v'.0)) tt
 
   -- and its second
-  pub three_vectors_second : (u v w : R × R) → O.mul (determinant O u v) w.1 ≡ O.add (O.mul (determinant O w v) u.1) (O.mul (determinant O u w) v.1)
+  pub three_vectors_second : (u v w : R × R) → O.mul (det O u v) w.1 ≡ O.add (O.mul (det O w v) u.1) (O.mul (det O u w) v.1)
   three_vectors_second u v w =
       identity O L (u.0 ∷ u.1 ∷ v.0 ∷ v.1 ∷ w.0 ∷ w.1 ∷ [])
-      (expr.mul (determinant expr u' v') w'.1) (expr.add (expr.mul (determinant expr w' v') u'.1) (expr.mul (determinant expr u' w') v'.1)) tt
+      (expr.mul (det expr u' v') w'.1) (expr.add (expr.mul (det expr w' v') u'.1) (expr.mul (det expr u' w') v'.1)) tt
 
   -- the value of the hinge's triple at a point is the determinant of the three rows
   pub hinge_value : (q : R × R × R) (a c d : R × R) → three_row_determinant O q a c d ≡ value_at O (hinge_triple O a c d) q
@@ -68,10 +68,10 @@ module _ {R : Type 0} (O : Ops R) (L : IsRing O) where
       (expr.mul q'.0 (length_by expr q' u')) (expr.add (expr.mul sum sum) (expr.mul (inner_value expr q') (expr.mul u'.1 u'.1))) tt
 
   -- det(v, u) = -det(u, v)
-  pub determinant_swap : (u v : R × R) → determinant O v u ≡ O.neg (determinant O u v)
+  pub determinant_swap : (u v : R × R) → det O v u ≡ O.neg (det O u v)
   determinant_swap u v =
       identity O L (u.0 ∷ u.1 ∷ v.0 ∷ v.1 ∷ [])
-      (determinant expr (var 2, var 3) (var 0, var 1)) (expr.neg (determinant expr (var 0, var 1) (var 2, var 3))) tt
+      (det expr (var 2, var 3) (var 0, var 1)) (expr.neg (det expr (var 0, var 1) (var 2, var 3))) tt
 
   -- (a + b)·(a - b) = a² - b²
   pub squares : (a b : R) → O.mul (O.add a b) (O.sub a b) ≡ O.sub (O.mul a a) (O.mul b b)

@@ -3,8 +3,8 @@ use Rattle.std.specs.Prelude.{pos}
 use Rattle.rings.specs.Ring.{Ops}
 
 -- det(u, v) = u.s·v.t - u.t·v.s
-abbrev pub determinant : {R : Type 0} → Ops R → R × R → R × R → R
-determinant O u v = O.sub (O.mul u.0 v.1) (O.mul u.1 v.0)
+abbrev pub det : {R : Type 0} → Ops R → R × R → R × R → R
+det O u v = O.sub (O.mul u.0 v.1) (O.mul u.1 v.0)
 
 -- len(v) = w·s² + 2x·s·t + y·t², the form (w, x, y) at the vector v = (s, t)
 abbrev pub length_by : {R : Type 0} → Ops R → R × R × R → R × R → R
@@ -22,15 +22,15 @@ value_at O l q = O.add (O.add (O.mul l.0 q.0) (O.mul l.1 q.1)) (O.mul l.2 q.2)
 -- the determinant of the three rows (v.s, v.t, len(v)) of a, c and d
 abbrev pub three_row_determinant : {R : Type 0} → Ops R → R × R × R → R × R → R × R → R × R → R
 three_row_determinant O q a c d =
-    O.sub (O.sub (O.mul (determinant O a c) (length_by O q d)) (O.mul (determinant O d c) (length_by O q a)))
-    (O.mul (determinant O a d) (length_by O q c))
+    O.sub (O.sub (O.mul (det O a c) (length_by O q d)) (O.mul (det O d c) (length_by O q a)))
+    (O.mul (det O a d) (length_by O q c))
 
 -- the triple (α, β, γ) of the hinge a, c, d
 abbrev pub hinge_triple : {R : Type 0} → Ops R → R × R → R × R → R × R → R × R × R
 hinge_triple O a c d =
-    let A = determinant O a c in
-    let B = determinant O d c in
-    let C = determinant O a d in (
+    let A = det O a c in
+    let B = det O d c in
+    let C = det O a d in (
       O.sub (O.sub (O.mul (O.mul A d.0) d.0) (O.mul (O.mul B a.0) a.0)) (O.mul (O.mul C c.0) c.0),
       O.mul (O.int (pos 2)) (O.sub (O.sub (O.mul (O.mul A d.0) d.1) (O.mul (O.mul B a.0) a.1)) (O.mul (O.mul C c.0) c.1)),
       O.sub (O.sub (O.mul (O.mul A d.1) d.1) (O.mul (O.mul B a.1) a.1)) (O.mul (O.mul C c.1) c.1),

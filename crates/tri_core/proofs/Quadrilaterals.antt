@@ -3,7 +3,6 @@ use Rattle.std.proofs.Common.{◌≡◌, ℕ, [], ◌∷◌, inl, inr, arith, re
 use Rattle.std.specs.Prelude.{pos, ◌<ℤ◌}
 use Rattle.std.proofs.lemmas.Int.{ints}
 use Rattle.rings.specs.Ring.{Ops, IsRing, Expr, var, expr}
-use Rattle.rings.specs.Forms.{determinant}
 use Rattle.rings.proofs.Solver.{identity}
 use Rattle.quad_field.specs.declared.quad.Quad.{Quad}
 use Rattle.quad_field.specs.Quads.{quad_ops, IsPositive}
@@ -43,19 +42,19 @@ module _ {R : Type 0} (O : Ops R) (L : IsRing O) where
       one a b c = identity O L (a ∷ b ∷ c ∷ []) (expr.add (expr.add (var 1) (var 2)) (var 0)) (expr.add (expr.add (var 0) (var 1)) (var 2)) tt
 
   -- det(v, w) = det(u, v) + det(v, u + v + w)
-  determinant_turned : (u v w : Vector R) → determinant O v w ≡ O.add (determinant O u v) (determinant O v (vector_sum O (vector_sum O u v) w))
+  determinant_turned : (u v w : Vector R) → det O v w ≡ O.add (det O u v) (det O v (vector_sum O (vector_sum O u v) w))
   determinant_turned u v w =
-      identity O L (u.0 ∷ u.1 ∷ v.0 ∷ v.1 ∷ w.0 ∷ w.1 ∷ []) (determinant expr v' w')
-      (expr.add (determinant expr u' v') (determinant expr v' (vector_sum expr (vector_sum expr u' v') w'))) tt
+      identity O L (u.0 ∷ u.1 ∷ v.0 ∷ v.1 ∷ w.0 ∷ w.1 ∷ []) (det expr v' w')
+      (expr.add (det expr u' v') (det expr v' (vector_sum expr (vector_sum expr u' v') w'))) tt
 
   -- x + det(v, 0) = x
-  no_determinant : (x : R) (v : Vector R) → O.add x (determinant O v (zero_vector O)) ≡ x
-  no_determinant x v = identity O L (x ∷ v.0 ∷ v.1 ∷ []) (expr.add (var 0) (determinant expr (var 1, var 2) (zero_vector expr))) (var 0) tt
+  no_determinant : (x : R) (v : Vector R) → O.add x (det O v (zero_vector O)) ≡ x
+  no_determinant x v = identity O L (x ∷ v.0 ∷ v.1 ∷ []) (expr.add (var 0) (det expr (var 1, var 2) (zero_vector expr))) (var 0) tt
 
   -- in a closed triangle det(v, w) = det(u, v)
-  pub next_determinant : (u v w : Vector R) → vector_sum O (vector_sum O u v) w ≡ zero_vector O → determinant O v w ≡ determinant O u v
+  pub next_determinant : (u v w : Vector R) → vector_sum O (vector_sum O u v) w ≡ zero_vector O → det O v w ≡ det O u v
   next_determinant u v w closed =
-      determinant_turned u v w ∙ ap (λ s. O.add (determinant O u v) (determinant O v s)) closed ∙ no_determinant (determinant O u v) v
+      determinant_turned u v w ∙ ap (λ s. O.add (det O u v) (det O v s)) closed ∙ no_determinant (det O u v) v
 
   -- the new diagonal closes its triangle with r and n
   pub closed_first : (r n : Vector R) → vector_sum O (vector_sum O (opposite_vector O (vector_sum O r n)) r) n ≡ zero_vector O
@@ -64,9 +63,9 @@ module _ {R : Type 0} (O : Ops R) (L : IsRing O) where
       one : (a b : R) → O.add (O.add (O.neg (O.add a b)) a) b ≡ O.int (pos 0)
       one a b = identity O L (a ∷ b ∷ []) (expr.add (expr.add (expr.neg (expr.add (var 0) (var 1))) (var 0)) (var 1)) (expr.int (pos 0)) tt
 
-  pub determinant_first : (r n : Vector R) → determinant O (opposite_vector O (vector_sum O r n)) r ≡ determinant O r n
+  pub determinant_first : (r n : Vector R) → det O (opposite_vector O (vector_sum O r n)) r ≡ det O r n
   determinant_first r n =
-      identity O L (r.0 ∷ r.1 ∷ n.0 ∷ n.1 ∷ []) (determinant expr (opposite_vector expr (vector_sum expr u' v')) u') (determinant expr u' v') tt
+      identity O L (r.0 ∷ r.1 ∷ n.0 ∷ n.1 ∷ []) (det expr (opposite_vector expr (vector_sum expr u' v')) u') (det expr u' v') tt
 
   -- its opposite closes its triangle with p and q, where the two old triangles are closed
   pub closed_second : (h n p q r : Vector R) → vector_sum O (vector_sum O h n) p ≡ zero_vector O → vector_sum O (vector_sum O (opposite_vector O h) q) r ≡ zero_vector O
@@ -86,12 +85,12 @@ module _ {R : Type 0} (O : Ops R) (L : IsRing O) where
       nothing = identity O L [] (expr.add (expr.int (pos 0)) (expr.int (pos 0))) (expr.int (pos 0)) tt
 
   -- det(u, p) = det(p, q) where u + p + q = 0
-  pub determinant_second : (u p q : Vector R) → vector_sum O (vector_sum O u p) q ≡ zero_vector O → determinant O u p ≡ determinant O p q
+  pub determinant_second : (u p q : Vector R) → vector_sum O (vector_sum O u p) q ≡ zero_vector O → det O u p ≡ det O p q
   determinant_second u p q closed = sym (next_determinant u p q closed)
 
   -- det(u, -u) = 0
-  pub determinant_opposite : (u : Vector R) → determinant O u (opposite_vector O u) ≡ O.int (pos 0)
-  determinant_opposite u = identity O L (u.0 ∷ u.1 ∷ []) (determinant expr u' (opposite_vector expr u')) (expr.int (pos 0)) tt
+  pub determinant_opposite : (u : Vector R) → det O u (opposite_vector O u) ≡ O.int (pos 0)
+  determinant_opposite u = identity O L (u.0 ∷ u.1 ∷ []) (det expr u' (opposite_vector expr u')) (expr.int (pos 0)) tt
 
 -- a vector whose opposite is v is the opposite of v
 pub from_opposite : (d : ℕ) (u v : Vector Quad) → v ≡ opposite_vector (quad_ops d) u → u ≡ opposite_vector (quad_ops d) v
