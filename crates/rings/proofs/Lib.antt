@@ -5,3 +5,12 @@ pub mod Extension
 pub mod ExtensionOrder
 pub mod Forms
 pub mod Points
+pub mod Signs
+pub mod Lines
+pub mod Multiples
+pub mod Sides
+pub mod LargeMultiples
+pub mod ChordPoints
+pub mod Mixtures
+pub mod Bounds
+pub mod ClosedPlaces

@@ -40,12 +40,12 @@ hinge_triple O a c d =
 abbrev pub discriminant : {R : Type 0} → Ops R → R × R × R → R
 discriminant O l = O.sub (O.mul l.1 l.1) (O.mul (O.int (pos 4)) (O.mul l.0 l.2))
 
--- the chord point of a line with γ ≠ 0: (2γγ, -(βγ), ββ - 2αγ)
+-- the chord point of a line with γ ≠ 0: (2·(γγ), -(βγ), ββ - 2·(αγ))
 abbrev pub chord_point : {R : Type 0} → Ops R → R × R × R → R × R × R
 chord_point O l = (
-  O.mul (O.mul (O.int (pos 2)) l.2) l.2,
+  O.mul (O.int (pos 2)) (O.mul l.2 l.2),
   O.neg (O.mul l.1 l.2),
-  O.sub (O.mul l.1 l.1) (O.mul (O.mul (O.int (pos 2)) l.0) l.2),
+  O.sub (O.mul l.1 l.1) (O.mul (O.int (pos 2)) (O.mul l.0 l.2)),
 )
 
 -- the chord point of a line with γ = 0: (ββ, -(αβ), αα + ββ)

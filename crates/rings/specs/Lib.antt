@@ -3,3 +3,5 @@ pub mod Order
 pub mod NormalForm
 pub mod Extension
 pub mod Forms
+pub mod Lines
+pub mod Bounds
