@@ -6,7 +6,7 @@ use Rattle.rings.specs.Ring.{Ops, var, expr}
 use Rattle.rings.proofs.Solver.{identity}
 use Rattle.quad_field.specs.Quads.{quad, quad_ops, IsPositive}
 use Rattle.quad_field.specs.declared.quad.Quad.{Quad}
-use Rattle.quad_field.proofs.KIntegers.{quad_ring}
+use Rattle.quad_field.proofs.CallerLemmas.{quad_ring}
 use Rattle.plane.specs.Vectors.{det, vector_sum, opposite_vector}
 use Rattle.std.proofs.lemmas.Bool.{cases_eq, cases_lt, lt-ltb, le-ltb, ltb-true, eq-eqb, eqb-true}
 use Rattle.tri_core.specs.declared.half.Half.{Half}

@@ -5,7 +5,7 @@ use mathlib.Core.Logic.{inl, inr}
 use Rattle.std.proofs.lemmas.Bool.{cases_Bool, and_parts, and_from, not_from_false}
 use Rattle.quad_field.specs.Quads.{quad_ops, IsPositive}
 use Rattle.quad_field.specs.FieldNumber.{IsFieldNumber}
-use Rattle.quad_field.proofs.KIntegers.{quad_ring, quad_order}
+use Rattle.quad_field.proofs.CallerLemmas.{quad_ring, quad_order}
 use Rattle.rings.specs.Ring.{IsRing}
 use Rattle.rings.specs.Order.{IsOrdered}
 use Rattle.plane.specs.Vectors.{det, opposite_vector}

@@ -12,7 +12,7 @@ use Rattle.rings.proofs.Ordered.{not_both_signs}
 use Rattle.quad_field.specs.Quads.{quad_ops, IsPositive}
 use Rattle.quad_field.specs.FieldNumber.{IsFieldNumber}
 use Rattle.quad_field.specs.declared.quad.Quad.{Quad}
-use Rattle.quad_field.proofs.KIntegers.{quad_ring, quad_order}
+use Rattle.quad_field.proofs.CallerLemmas.{quad_ring, quad_order}
 use Rattle.plane.specs.Vectors.{Vector, det, vector_sum}
 use Rattle.gluing.specs.Polygons.{no_vector, zero_of, side_at, side_after, corner, sum_of, IsFlat, IsProper}
 use Rattle.ear_cut.specs.Cuttings.{chord_at, replaced, HasPositiveCorner, IsEar}

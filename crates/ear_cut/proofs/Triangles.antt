@@ -7,7 +7,7 @@ use Rattle.rings.proofs.Solver.{identity}
 use Rattle.quad_field.specs.declared.quad.Quad.{Quad}
 use Rattle.quad_field.specs.Quads.{quad_ops, IsPositive}
 use Rattle.quad_field.specs.FieldNumber.{IsFieldNumber}
-use Rattle.quad_field.proofs.KIntegers.{quad_ring}
+use Rattle.quad_field.proofs.CallerLemmas.{quad_ring}
 use Rattle.plane.specs.Vectors.{Vector, vector, vector_sum, opposite_vector, det}
 use Rattle.plane.specs.declared.vec2.Vec2.{Vec2}
 use Rattle.gluing.specs.Polygons.{no_vector, side_at, side_after}

@@ -9,7 +9,7 @@ use Rattle.rings.proofs.Ordered.{not_both_signs}
 use Rattle.quad_field.specs.declared.quad.Quad.{Quad}
 use Rattle.quad_field.specs.Quads.{quad_ops, IsPositive}
 use Rattle.quad_field.specs.FieldNumber.{IsFieldNumber}
-use Rattle.quad_field.proofs.KIntegers.{quad_ring, quad_order}
+use Rattle.quad_field.proofs.CallerLemmas.{quad_ring, quad_order}
 use Rattle.plane.specs.Vectors.{Vector, vector, vector_sum, opposite_vector, det}
 use Rattle.surface_text.specs.declared.file.Glue.{Glue}
 use Rattle.surface_text.specs.Limits.{IsThere, NamesSides}

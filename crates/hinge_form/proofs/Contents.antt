@@ -10,7 +10,7 @@ use Rattle.std.proofs.Math.Nat.{dvd_of_mul-dvd-mul_right, mul-dvd-mul_right, one
 use Rattle.quad_field.specs.declared.quad.Quad.{Quad}
 use Rattle.quad_field.specs.Content.{DividesAll, DividesParts}
 use Rattle.quad_field.specs.Quads.{quad, scaled}
-use Rattle.quad_field.proofs.Contents.{exact_quotient}
+use Rattle.quad_field.proofs.CallerLemmas.{exact_quotient}
 use Rattle.hinge_form.specs.Hinges.{Triple, times}
 use Rattle.hinge_form.proofs.Multiples.{zeros, times_zero}
 

@@ -4,7 +4,7 @@ use Rattle.rings.specs.Forms.{det, three_row_determinant}
 use Rattle.quad_field.specs.declared.quad.Quad.{Quad}
 use Rattle.quad_field.specs.FieldNumber.{IsFieldNumber}
 use Rattle.quad_field.specs.Quads.{quad_ops, IsPositive}
-use Rattle.quad_field.proofs.KIntegers.{quad_ring}
+use Rattle.quad_field.proofs.CallerLemmas.{quad_ring, order_of}
 use Rattle.plane.specs.Vectors.{Vector, opposite_vector}
 use Rattle.tri_core.specs.declared.half.Half.{Half}
 use Rattle.tri_core.specs.HalfEdges.{vector_at, twin_at, next_of, previous_of}
@@ -13,7 +13,7 @@ use Rattle.tri_core.specs.Flips.{IsFlip, moved}
 use Rattle.hinge_form.specs.Hinges.{Triple, hinge_value}
 use Rattle.hinge_form.proofs.Turned.{third_side, diagonal_value}
 use Rattle.hinge_form.proofs.Sides.{IsTriple, opposite_flat, opposite_twice}
-use Rattle.hinge_form.proofs.Hinged.{order_of, own_triple, turned_triple, next_is, behind_is}
+use Rattle.hinge_form.proofs.Hinged.{own_triple, turned_triple, next_is, behind_is}
 
 -- four numbers in a cycle
 abbrev cycled : ℕ → ℕ → ℕ → ℕ → ℕ → ℕ

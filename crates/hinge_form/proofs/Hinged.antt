@@ -1,13 +1,12 @@
 -- The hinge of a half-edge of a triangulation: its determinants, its value, and that of its twin.
 use Rattle.std.proofs.Common.{◌≡◌, ℕ, zero, suc, ◌<◌, ◌≤◌, List, length, sym, ◌∙◌, ap, subst, arith}
 use Rattle.std.specs.Prelude.{pos}
-use Rattle.rings.specs.Order.{IsOrdered}
 use Rattle.rings.specs.Forms.{det, value_at, three_row_determinant}
 use Rattle.rings.proofs.Forms as forms
 use Rattle.quad_field.specs.declared.quad.Quad.{Quad}
 use Rattle.quad_field.specs.FieldNumber.{IsFieldNumber}
 use Rattle.quad_field.specs.Quads.{quad_ops, scaled, IsPositive}
-use Rattle.quad_field.proofs.KIntegers.{quad_ring, quad_order}
+use Rattle.quad_field.proofs.CallerLemmas.{quad_ring, order_of}
 use Rattle.plane.specs.Vectors.{Vector, opposite_vector}
 use Rattle.tri_core.specs.declared.half.Half.{Half}
 use Rattle.tri_core.specs.HalfEdges.{vector_at, twin_at, next_of, previous_of}
@@ -18,10 +17,6 @@ use Rattle.hinge_form.proofs.Turned.{third_side, flat_place, twin_value, determi
 use Rattle.hinge_form.proofs.Rises.{turns_where_not_positive, flat_positive}
 use Rattle.hinge_form.proofs.Sides.{IsTriple, triple_turned, triple_third, triple_at}
 use Rattle.hinge_form.proofs.Multiples.{zeros, times_zero, times_zeros, times_value, zeros_value}
-
--- the order of the K-integers of a field
-pub order_of : (d : ℕ) → IsFieldNumber d → IsOrdered (quad_ops d) (IsPositive d)
-order_of d field = quad_order d field.2 field.0
 
 -- the value of a hinge is that of its triple
 pub value_of_triple : (d : ℕ) (halves : List Half) (h : ℕ) (q : Triple) → hinge_value d halves h q ≡ value_at (quad_ops d) (full_triple d halves h) q

@@ -7,7 +7,7 @@ use Rattle.rings.proofs.Solver.{identity}
 use Rattle.rings.proofs.WholeNumbers.{whole_ring}
 use Rattle.quad_field.specs.declared.quad.Quad.{Quad}
 use Rattle.quad_field.specs.Quads.{quad, quad_ops, scaled}
-use Rattle.quad_field.proofs.KIntegers.{quad_ring}
+use Rattle.quad_field.proofs.CallerLemmas.{quad_ring}
 use Rattle.hinge_form.specs.Hinges.{Triple, times}
 use Rattle.hinge_form.proofs.Turned.{multiple_value, zero_value}
 

@@ -6,7 +6,7 @@ use Rattle.rings.specs.Ring.{Ops, IsRing, Expr, var, expr}
 use Rattle.rings.proofs.Solver.{identity}
 use Rattle.quad_field.specs.declared.quad.Quad.{Quad}
 use Rattle.quad_field.specs.Quads.{quad_ops, IsPositive}
-use Rattle.quad_field.proofs.KIntegers.{quad_ring}
+use Rattle.quad_field.proofs.CallerLemmas.{quad_ring}
 use Rattle.plane.specs.Vectors.{Vector, det, vector_sum, opposite_vector}
 use Rattle.tri_core.specs.declared.half.Half.{Half}
 use Rattle.tri_core.specs.HalfEdges.{vector_at, triangle_of, next_of, previous_of}

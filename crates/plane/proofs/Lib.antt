@@ -2,3 +2,4 @@ pub mod Naturals
 pub mod Wholes
 pub mod Quads
 pub mod Vectors
+pub mod CallerLemmas

@@ -8,3 +8,5 @@ pub mod KIntegers
 pub mod Archimedes
 pub mod Norms
 pub mod Contents
+pub mod Conjugates
+pub mod CallerLemmas

@@ -7,3 +7,4 @@ pub mod Fraction
 pub mod Checked
 pub mod Size
 pub mod Content
+pub mod Multiples

@@ -7,6 +7,7 @@ ghost use Rattle.rings.specs.Order.{ExactlyOne};
 ghost use Rattle.quad_field.specs.FieldNumber.{IsSquareFree};
 ghost use Rattle.quad_field.specs.Quads.{quad_ops, IsPositive, IsZero};
 ghost use Rattle.quad_field.specs.Size.{size};
+ghost use Rattle.quad_field.specs.Multiples.{HasWhole};
 ghost use Rattle.quad_field.specs.declared.quad.Quad.{Quad};
 
 /// Sums and products obey the rules of a commutative ring, for every D.
@@ -57,4 +58,9 @@ pub fn zero_product()
 pub fn archimedean()
     ensures { (d : ℕ) → IsSquareFree d → 2 ≤ d → (p r : Quad) → IsPositive d p → (n : ℕ) → size d p * size d r < n
         → IsPositive d ((quad_ops d).add ((quad_ops d).mul ((quad_ops d).int (pos n)) p) r) }
+{}
+
+/// Some multiple of a positive K-integer is a whole number above zero: that by its conjugate, or by the negative of that.
+pub fn whole_multiple()
+    ensures { (d : ℕ) → IsSquareFree d → 2 ≤ d → (x : Quad) → IsPositive d x → HasWhole d x }
 {}

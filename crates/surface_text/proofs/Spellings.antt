@@ -6,9 +6,7 @@ use Rattle.std.specs.Char.{digit_value}
 use Rattle.quad_field.specs.declared.quad.Quad.{Quad}
 use Rattle.plane.specs.declared.vec2.Vec2.{Vec2}
 use Rattle.plane.specs.Spelling.{natural_text, whole_text, root_text, quad_text, vector_text}
-use Rattle.plane.proofs.Naturals.{natural_text_is, natural_text_injective, glyph_of_value}
-use Rattle.plane.proofs.Wholes.{whole_injective}
-use Rattle.plane.proofs.Vectors.{vector_injective}
+use Rattle.plane.proofs.CallerLemmas.{natural_text_digits, natural_text_injective, glyph_of_value, whole_injective, vector_injective}
 use Rattle.surface_text.specs.declared.file.Point.{Point}
 use Rattle.surface_text.specs.declared.file.Glue.{Glue}
 use Rattle.surface_text.specs.Spelling.{denominator_text, fraction_text, point_text, glue_text, sides_text, Line, word_of, tail_of, line_text}
@@ -33,7 +31,7 @@ high_digits [] all = tt
 high_digits (c ∷ cs) all = (high_digit c all.0, high_digits cs all.1)
 
 high_natural : (n : ℕ) → AreHigh (natural_text n)
-high_natural n = let is = natural_text_is n in high_digits (natural_text n) is.digits
+high_natural n = high_digits (natural_text n) (natural_text_digits n)
 
 high_one : (byte : ℕ) (bytes : List ℕ) → 43 ≤ byte → byte ≤ 122 → AreHigh bytes → AreHigh (byte ∷ bytes)
 high_one byte bytes low high rest = ((low, high), rest)

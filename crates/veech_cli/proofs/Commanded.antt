@@ -1,6 +1,6 @@
 -- Words name one command.
 use Rattle.std.proofs.Common.{◌≡◌, ℕ, inl, inr, List, [], ◌∷◌, codes, ap, sym, ◌∙◌, refl}
-use Rattle.plane.proofs.Naturals.{natural_text_injective}
+use Rattle.plane.proofs.CallerLemmas.{natural_text_injective}
 use Rattle.veech_cli.specs.declared.command.Command.{Command}
 use Rattle.veech_cli.specs.declared.command.Command.TheVariants.{Check, Base}
 use Rattle.veech_cli.specs.Commands.{Names}
