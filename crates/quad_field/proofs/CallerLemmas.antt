@@ -1,16 +1,20 @@
 -- What the crates above cite: lemmas on K-integers that speak of public definitions alone.
-use Rattle.std.proofs.Common.{◌≡◌, ℕ, ◌*◌, ◌<◌, [], ◌∷◌, ap}
-use Rattle.std.specs.Prelude.{ℤ, pos, ◌+ℤ◌, ◌*ℤ◌, unsigned_abs}
+use Rattle.std.proofs.Common.{◌≡◌, ℕ, ◌*◌, ◌<◌, [], ◌∷◌, refl, ap, arith}
+use Rattle.std.specs.Prelude.{ℤ, pos, ◌+ℤ◌, ◌*ℤ◌, ◌<ℤ◌, unsigned_abs}
+use mathlib.Core.Logic.{inl}
+use Rattle.std.proofs.lemmas.Int.{ints}
 use Rattle.std.proofs.Math.IntN.{ℤ_set}
 use Rattle.rings.specs.Ring.{var, expr, whole_ops}
 use Rattle.rings.specs.Order.{IsOrdered}
 use Rattle.rings.proofs.Solver.{identity}
 use Rattle.rings.proofs.WholeNumbers.{whole_ring}
+use Rattle.rings.proofs.LargeMultiples.{IsArchimedean}
 use Rattle.quad_field.specs.declared.quad.Quad.{Quad}
 use Rattle.quad_field.specs.FieldNumber.{IsFieldNumber}
 use Rattle.quad_field.specs.Quads.{quad, quad_ops, scaled, conjugate_of, product, IsPositive, IsZero}
 use Rattle.quad_field.specs.Multiples.{HasWhole}
 use Rattle.quad_field.specs.Size.{size}
+use Rattle.quad_field.proofs.Signs.{not_zero_too}
 use Rattle.quad_field.proofs.Archimedes.{archimedes}
 use Rattle.quad_field.proofs.Conjugates as conjugates
 -- K-integers are a commutative ring, and an ordered one where D is square-free
@@ -28,6 +32,16 @@ zero_is d x z i = quad (z.0 i) (z.1 i)
 
 pub is_zero_from : (d : ℕ) (x : Quad) → x ≡ (quad_ops d).int (pos 0) → IsZero x
 is_zero_from d x e = (ap (λ (y : Quad). y.a) e, ap (λ (y : Quad). y.b) e)
+
+-- zero isn't positive, whatever D is, and whole numbers above zero are
+pub zero_not_positive : (d : ℕ) → ¬ (IsPositive d ((quad_ops d).int (pos 0)))
+zero_not_positive d p = not_zero_too d ((quad_ops d).int (pos 0)) (refl, refl) p
+
+pub whole_positive : (d : ℕ) (n : ℤ) → pos 0 <ℤ n → IsPositive d ((quad_ops d).int n)
+whole_positive d n h = inl (omega (arith, ints), omega (arith, ints), λ z. let e = z.0 in omega (arith, ints))
+
+pub natural_positive : (d n : ℕ) → 0 < n → IsPositive d ((quad_ops d).int (pos n))
+natural_positive d n h = whole_positive d (pos n) (omega (arith, ints))
 
 -- a multiple by a whole number is a product: k·(a + b·√D)
 pub scaled_is : (d : ℕ) (k : ℤ) (x : Quad) → scaled k x ≡ (quad_ops d).mul ((quad_ops d).int k) x
@@ -48,9 +62,8 @@ module _ (d : ℕ) (field : IsFieldNumber d) where
   pub order_of : IsOrdered (quad_ops d) (IsPositive d)
   order_of = quad_order d field.2 field.0
 
-  -- the archimedean law: all large multiples of a positive number exceed any other
-  pub archimedean : (p r : Quad) → IsPositive d p
-      → (least : ℕ) × ((n : ℕ) → least < n → IsPositive d ((quad_ops d).add ((quad_ops d).mul ((quad_ops d).int (pos n)) p) r))
+  -- all large multiples of a positive number exceed any other
+  pub archimedean : IsArchimedean (quad_ops d) (IsPositive d)
   archimedean p r h = (size d p * size d r, λ n more. archimedes d field.2 field.0 p r h n more)
 
   -- some multiple of a positive number is a whole number above zero

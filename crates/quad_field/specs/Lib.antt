@@ -1,5 +1,6 @@
 pub use Rattle.rings.specs.Ring
 pub use Rattle.rings.specs.Forms
+pub use Rattle.rings.specs.Vectors
 pub mod Quads
 pub mod FieldNumber
 pub mod Width

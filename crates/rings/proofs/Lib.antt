@@ -14,3 +14,7 @@ pub mod ChordPoints
 pub mod Mixtures
 pub mod Bounds
 pub mod ClosedPlaces
+pub mod Factors
+pub mod Matrices
+pub mod Pigeonhole
+pub mod Turning

@@ -5,3 +5,5 @@ pub mod Extension
 pub mod Forms
 pub mod Lines
 pub mod Bounds
+pub mod Vectors
+pub mod Matrices
