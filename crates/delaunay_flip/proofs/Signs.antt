@@ -9,14 +9,13 @@ use Rattle.rings.proofs.Ordered.{factor_negative, factor_zero, product_negative,
 use Rattle.quad_field.specs.declared.quad.Quad.{Quad}
 use Rattle.quad_field.specs.FieldNumber.{IsFieldNumber}
 use Rattle.quad_field.specs.Quads.{quad, quad_ops, scaled, IsPositive, IsZero}
-use Rattle.quad_field.proofs.CallerLemmas.{quad_ring, order_of}
+use Rattle.quad_field.proofs.CallerLemmas.{quad_ring, order_of, scaled_is}
 use Rattle.tri_core.specs.declared.half.Half.{Half}
 use Rattle.tri_core.specs.Triangulation.{IsTriangulation}
 use Rattle.tri_core.specs.Flips.{IsEdge}
 use Rattle.hinge_form.specs.Hinges.{Triple, hinge_value, of_form, of_place, value_of, ValueFits, IsHingeTriple, IsStrictAt}
 use Rattle.hinge_form.specs.declared.form.Form.{Form}
 use Rattle.hinge_form.specs.declared.place.Place3.{Place3}
-use Rattle.hinge_form.proofs.Multiples.{scaled_is}
 use Rattle.hinge_form.proofs.Hinged.{value_multiple}
 use Rattle.delaunay_flip.specs.Flipping.{IsNegative, IsZeroAt, IsDelaunay, TripleValueFits, ValueFitsAt}
 use Rattle.delaunay_flip.proofs.Triples.{one_triple, whole_positive}

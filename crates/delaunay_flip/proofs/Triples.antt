@@ -10,11 +10,10 @@ use Rattle.quad_field.specs.declared.quad.Quad.{Quad}
 use Rattle.quad_field.specs.FieldNumber.{IsFieldNumber}
 use Rattle.quad_field.specs.Content.{DividesParts}
 use Rattle.quad_field.specs.Quads.{quad, quad_ops, scaled, IsPositive}
-use Rattle.quad_field.proofs.CallerLemmas.{quad_ring, order_of}
+use Rattle.quad_field.proofs.CallerLemmas.{quad_ring, order_of, scaled_is}
 use Rattle.tri_core.specs.declared.half.Half.{Half}
 use Rattle.tri_core.specs.Triangulation.{IsTriangulation}
 use Rattle.hinge_form.specs.Hinges.{Triple, IsHingeTriple, times, HasNoDivisor}
-use Rattle.hinge_form.proofs.Multiples.{scaled_is}
 use Rattle.hinge_form.proofs.Hinged.{divisor_some}
 
 -- the cofactors of two whole numbers: wherever g·a = k·b, they divide a and b

@@ -1,29 +1,14 @@
 -- Multiples of triples of K-integers, and their values.
 use Rattle.std.proofs.Common.{◌≡◌, ℕ, [], ◌∷◌, sym, ◌∙◌, ap}
-use Rattle.std.specs.Prelude.{ℤ, pos, ◌+ℤ◌, ◌*ℤ◌}
-use Rattle.rings.specs.Ring.{var, expr, whole_ops}
+use Rattle.std.specs.Prelude.{pos}
+use Rattle.rings.specs.Ring.{var, expr}
 use Rattle.rings.specs.Forms.{value_at}
 use Rattle.rings.proofs.Solver.{identity}
-use Rattle.rings.proofs.WholeNumbers.{whole_ring}
 use Rattle.quad_field.specs.declared.quad.Quad.{Quad}
 use Rattle.quad_field.specs.Quads.{quad, quad_ops, scaled}
-use Rattle.quad_field.proofs.CallerLemmas.{quad_ring}
+use Rattle.quad_field.proofs.CallerLemmas.{quad_ring, scaled_is}
 use Rattle.hinge_form.specs.Hinges.{Triple, times}
 use Rattle.hinge_form.proofs.Turned.{multiple_value, zero_value}
-
--- k·(a + b·√D) is a product
-pub scaled_is : (d : ℕ) (k : ℤ) (x : Quad) → scaled k x ≡ (quad_ops d).mul ((quad_ops d).int k) x
-scaled_is d k x i = quad (first i) (second i)
-  where
-    first : x.a *ℤ k ≡ (k *ℤ x.a) +ℤ (pos d *ℤ (pos 0 *ℤ x.b))
-    first =
-        identity whole_ops whole_ring (x.a ∷ x.b ∷ k ∷ pos d ∷ []) (expr.mul (var 0) (var 2))
-        (expr.add (expr.mul (var 2) (var 0)) (expr.mul (var 3) (expr.mul (expr.int (pos 0)) (var 1)))) tt
-
-    second : x.b *ℤ k ≡ (k *ℤ x.b) +ℤ (pos 0 *ℤ x.a)
-    second =
-        identity whole_ops whole_ring (x.a ∷ x.b ∷ k ∷ []) (expr.mul (var 1) (var 2))
-        (expr.add (expr.mul (var 2) (var 1)) (expr.mul (expr.int (pos 0)) (var 0))) tt
 
 -- the triple of zeros
 abbrev pub zeros : Triple
