@@ -1,5 +1,5 @@
 -- Searches among the numbers below a bound, and how many of them there are with a property.
-use Rattle.std.proofs.Common.{◌≡◌, ℕ, zero, suc, ◌<◌, false, cond, eqb, subst, sym, ap, ◌∙◌, arith}
+use Rattle.std.proofs.Common.{◌≡◌, ℕ, zero, suc, ◌<◌, false, cond, eqb, get_or, replicate, refl, subst, sym, ap, ◌∙◌, arith}
 use Rattle.std.specs.Prelude.{◌⊎◌}
 use mathlib.Core.Logic.{inl, inr}
 use Rattle.std.proofs.lemmas.Bool.{cases_eq, eq-eqb}
@@ -64,3 +64,9 @@ repeats (suc n) f below = go (first_below (λ i. f i ≡ f (suc n)) (λ i. cases
         equal i j hi hj e (inl p) (inr q) = absurd (none j hj (sym (moved_other j q) ∙ sym e ∙ moved_top i p))
         equal i j hi hj e (inr p) (inl q) = absurd (none i hi (sym (moved_other i p) ∙ e ∙ moved_top j q))
         equal i j hi hj e (inr p) (inr q) = sym (moved_other i p) ∙ e ∙ moved_other j q
+
+-- no mark stands in a list of marks that aren't made
+pub unmarked_all : (n t : ℕ) → get_or (replicate n false) t false ≡ false
+unmarked_all zero t = refl
+unmarked_all (suc n) zero = refl
+unmarked_all (suc n) (suc t) = unmarked_all n t

@@ -1,4 +1,4 @@
-pub mod Searches
+pub mod Neighbours
 pub mod Vectors
 pub mod Causes
 pub mod Moves

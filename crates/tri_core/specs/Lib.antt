@@ -8,4 +8,4 @@ pub mod Triangulation
 pub mod Flips
 pub mod Slots
 pub mod Refusals
-pub mod Search
+pub mod Neighbours

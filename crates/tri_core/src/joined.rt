@@ -1,26 +1,36 @@
 //! Whether each triangle is joined to triangle 0.
 
-ghost use Rattle.std.specs.Prelude.{◌≡◌, ℕ, ◌*◌, ◌≤◌, length, IfOk};
+ghost use Rattle.std.specs.Prelude.{◌≡◌, ℕ, ◌/◌, length, IfOk};
 ghost use Rattle.tri_core.specs.Triangulation.{HasTriangles, IsTriangle, IsJoined};
-ghost use Rattle.tri_core.specs.Search.{HasTwins, IsMarked};
-ghost use Rattle.tri_core.specs.Refusals.{IsBelow, IsFirstFailure};
+ghost use Rattle.tri_core.specs.Neighbours.{HasTwins, neighbours_of as triangles_beside};
+ghost use Rattle.tri_core.specs.Refusals.{IsFirstFailure};
 
 use super::Half;
-use super::search::mark_joined;
+use graph_search::Graph;
 use std::alloc::{AllocError, Global};
 
-/// The first triangle that isn't marked.
-fn first_unmarked(marks: &[bool]) -> Option<u32>
-    requires { length marks.now ≤ 256 }
-    ensures { IsFirstFailure (IsBelow (length marks.now)) (IsMarked marks.now) result }
-{
-    let count = marks.len() as u32;
-    for t in 0..count {
-        if !marks[t as usize] {
-            return Some(t);
-        }
+/// The triangles of half-edges, each with the three across its sides as neighbours.
+#[derive(Drop)]
+struct Triangles<'a> {
+    halves: &'a [Half],
+}
+
+impl<'a> Graph for Triangles<'a> {
+    ghost node_count = { λ triangles. length triangles.halves.now / 3 };
+
+    ghost neighbours_of = { λ triangles. triangles_beside triangles.halves.now };
+
+    fn nodes(&self) -> usize {
+        self.halves.len() / 3
     }
-    None
+
+    fn degree(&self, _node: usize) -> usize {
+        3
+    }
+
+    fn neighbour(&self, node: usize, place: usize) -> usize {
+        self.halves[3 * node + place].twin as usize / 3
+    }
 }
 
 /// The first triangle that isn't joined to triangle 0.
@@ -29,10 +39,8 @@ pub fn first_apart(alloc: Global, halves: &[Half]) -> Result<Option<u32>, AllocE
     requires twins { HasTwins halves.now }
     ensures { IfOk result (IsFirstFailure (IsTriangle halves.now) (IsJoined halves.now)) }
 {
-    let count = halves.len() / 3;
-    let mut found = Vec::with_capacity(alloc, count)?;
-    let mut room = [false; 256];
-    let marks = &mut room[..count];
-    mark_joined(halves, marks, &mut found);
-    Ok(first_unmarked(marks))
+    match graph_search::first_apart(alloc, &Triangles { halves })? {
+        Some(t) => Ok(Some(t as u32)),
+        None => Ok(None),
+    }
 }

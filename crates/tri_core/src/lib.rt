@@ -7,7 +7,6 @@ mod half;
 mod joined;
 mod paired;
 mod quadrilateral;
-mod search;
 mod tri;
 mod turns;
 

@@ -1,6 +1,6 @@
 use Rattle.std.proofs.Common.{◌≡◌, ℕ, [], false, replicate, length, sym, subst, ◌∙◌, arith}
 use Rattle.std.proofs.lemmas.List.{length-replicate}
-use Rattle.tri_core.proofs.Searches.{unmarked_all}
+use Rattle.cone_points.proofs.Searches.{unmarked_all}
 use Rattle.cone_points.specs.Walks.{IsRound}
 use Rattle.cone_points.proofs.Visits.{round_none, round_all}
 use Rattle.cone_points.proofs.walks.all_turns.Goals as goal
