@@ -1,19 +1,19 @@
 -- Divisors of lists of K-integers.
-use Rattle.std.proofs.Common.{◌≡◌, ℕ, zero, suc, ◌+◌, ◌*◌, ◌<◌, ◌≤◌, ◌≢◌, length, get_or, take, drop, set, [], ◌∷◌, ◌++◌, arith, ap, sym, refl, subst, ◌∙◌, add-one, below_more, get_or-set_other, length-set}
+use Rattle.std.proofs.Common.{◌≡◌, ℕ, zero, suc, ◌+◌, ◌*◌, ◌<◌, ◌≤◌, ◌≢◌, length, get_or, take, drop, set, [], ◌∷◌, ◌++◌, arith, ap, sym, refl, subst, ◌∙◌, add-one, below_more, get_or-set_other, length-set, to_z, of_z}
 use mathlib.Core.Path.{subst₂}
 use Rattle.std.specs.Prelude.{ℤ, pos, negsuc, neg_ℤ, ◌*ℤ◌, ◌<ℤ◌, List, map, unsigned_abs, FitsSigned}
 use Rattle.std.specs.Int.{IsGcd, w128}
-use Rattle.std.specs.List.{AllWithin}
+use Rattle.std.specs.List.{All, AllWithin}
 use Rattle.std.specs.Int.RustNames.{int_div, int_rem}
 use Prim.Native.Nat.{◌∣◌}
-use Rattle.std.proofs.lemmas.Int.{ints, quot-rem, unsigned_abs-mul}
+use Rattle.std.proofs.lemmas.Int.{ints, quot-rem, quot_fits, quot_is, unsigned_abs-mul}
 use Rattle.std.proofs.lemmas.Nat.Gcd.{dvd_antisymm, dvd_trans, dvd-zero, le_of_dvd, mod-eq-zero_of_dvd}
 use Rattle.std.proofs.lemmas.List.{get_or_default}
 use Rattle.std.proofs.lemmas.List.Elements.{All-map, All-same}
 use Rattle.std.proofs.Math.Nat.{dvd_of_mul-dvd-mul_right, mul-dvd-mul_right, one-dvd}
 use Rattle.quad_field.specs.declared.quad.Quad.{Quad}
-use Rattle.quad_field.specs.Content.{DividesAll, DividesParts, IsCommonDivisor}
-use Rattle.quad_field.specs.Quads.{quad, scaled}
+use Rattle.quad_field.specs.Content.{DividesAll, DividesParts, IsCommonDivisor, IsPrimitive}
+use Rattle.quad_field.specs.Quads.{quad, scaled, IsZero}
 
 -- a division without rest
 rest_zero : (n g : ℤ) → unsigned_abs g ∣ unsigned_abs n → int_rem n g ≡ pos 0
@@ -45,13 +45,20 @@ module _ (xs : List Quad) (i g p r u v : ℕ) (e : Quad) (inside : i < length xs
         all.2 k (c.greatest k (λ m d low l. h m d low (omega arith))) (parts.2 k (subst (λ n. k ∣ n) (sym a) here.0) (subst (λ n. k ∣ n) (sym b) here.1));
   }
 
--- ---- the numbers ys: the first i of them are those of xs divided by g, and the others are still those of xs
-pub record IsDividedTo (g : ℤ) (xs ys : List Quad) (i : ℕ) : Type 0 where
-  pub same : xs ≡ map (scaled g) (take i ys) ++ drop i ys
-  pub rest : (k : ℕ) (d : Quad) → i ≤ k → k < length ys → DividesParts (unsigned_abs g) (get_or ys k d)
+-- a divisor of the first i numbers that is 1 is the content of all
+pub one_is_content : (xs : List Quad) (i : ℕ) → i < length xs → IsContentTo xs i 1 → (k : ℕ) → DividesAll k xs → k ∣ 1
+one_is_content xs i inside c k all = c.greatest k (λ m d low h. all m d (omega arith))
 
-pub divided_none : (g h : ℤ) (xs : List Quad) → g ≡ h → DividesAll (unsigned_abs h) xs → IsDividedTo g xs xs 0
-divided_none g h xs e all = record { same = refl; rest = λ k d low under. subst (λ n. DividesParts (unsigned_abs n) (get_or xs k d)) (sym e) (all k d under) }
+pub one_divides : (xs : List Quad) → DividesAll 1 xs
+one_divides xs k d h = (one-dvd _, one-dvd _)
+
+-- ---- the numbers ys: the first i of them are those of xs divided by g, and the others are still those of xs
+pub record IsDividedTo (g : ℕ) (xs ys : List Quad) (i : ℕ) : Type 0 where
+  pub same : xs ≡ map (scaled (pos g)) (take i ys) ++ drop i ys
+  pub rest : (k : ℕ) (d : Quad) → i ≤ k → k < length ys → DividesParts g (get_or ys k d)
+
+pub divided_none : (g : ℕ) (xs : List Quad) → DividesAll g xs → IsDividedTo g xs xs 0
+divided_none g xs all = record { same = refl; rest = λ k d low under. all k d under }
 
 same_more : (g : ℤ) (ys : List Quad) (i : ℕ) (y e : Quad) → i < length ys → get_or ys i e ≡ scaled g y
     → map (scaled g) (take i ys) ++ drop i ys ≡ map (scaled g) (take (suc i) (set ys i y)) ++ drop (suc i) (set ys i y)
@@ -59,17 +66,54 @@ same_more g [] i y e h is = absurd (omega arith)
 same_more g (x ∷ ys) zero y e h is = ap (λ x. x ∷ ys) is
 same_more g (x ∷ ys) (suc i) y e h is = ap (λ t. scaled g x ∷ t) (same_more g ys i y e (omega arith) is)
 
-pub divided_more : (g : ℤ) (xs ys : List Quad) (i : ℕ) (y e : Quad) → i < length ys → (get_or ys i e).a ≡ y.a *ℤ g → (get_or ys i e).b ≡ y.b *ℤ g
+pub divided_more : (g : ℕ) (xs ys : List Quad) (i : ℕ) (y e : Quad) → i < length ys → (get_or ys i e).a ≡ y.a *ℤ pos g → (get_or ys i e).b ≡ y.b *ℤ pos g
     → IsDividedTo g xs ys i → IsDividedTo g xs (set ys i y) (i + 1)
 divided_more g xs ys i y e h a b c = record {
-  same = rw add-one (c.same ∙ same_more g ys i y e h (subst₂ (λ s t. get_or ys i e ≡ quad s t) a b refl));
+  same = rw add-one (c.same ∙ same_more (pos g) ys i y e h (subst₂ (λ s t. get_or ys i e ≡ quad s t) a b refl));
   rest = λ k d low under.
       let other : k ≢ i = omega arith in
       rw get_or-set_other (c.rest k d (omega arith) (omega (arith, length-set ys i y)));
 }
 
+-- one time a number
+once : (x : Quad) → x ≡ scaled (pos 1) x
+once x i = quad (part x.a i) (part x.b i)
+  where
+    part : (n : ℤ) → n ≡ n *ℤ pos 1
+    part n = omega (arith, ints)
+
+pub all_once : (xs : List Quad) → xs ≡ map (scaled (pos 1)) xs
+all_once [] = refl
+all_once (x ∷ xs) = (λ i. once x i ∷ xs) ∙ ap (λ t. scaled (pos 1) x ∷ t) (all_once xs)
+
+-- ---- n / g where g divides n
+-- where g is an i128
+pub quotient_small : (n : ℤ) (g : ℕ) → FitsSigned w128 n → 0 < g → g ≤ 170141183460469231731687303715884105727 → g ∣ unsigned_abs n
+    → n ≡ to_z w128 (of_z w128 (int_div (to_z w128 (of_z w128 n)) (to_z w128 g))) *ℤ pos g
+quotient_small n g fits some small h =
+    let g_fits : FitsSigned w128 (pos g) = omega (arith, ints) in
+    let positive : pos 0 <ℤ pos g = omega (arith, ints) in
+    exact_quotient n (pos g) h ∙ ap (λ q. q *ℤ pos g) (sym (quot_is w128 n (pos g) fits g_fits (quot_fits w128 n (pos g) fits positive)))
+
+-- where it is none, n is 0 or -g
+pub quotient_large : (n : ℤ) (g : ℕ) → FitsSigned w128 n → 170141183460469231731687303715884105727 < g → n ≢ pos 0 → g ∣ unsigned_abs n → n ≡ neg_ℤ (pos (1 * g))
+quotient_large n g fits large some h =
+    let positive : 0 < unsigned_abs n = omega (arith, ints) in
+    let le : g ≤ unsigned_abs n = le_of_dvd positive h in
+    omega (arith, ints)
+
+-- ---- what 0 divides is zero
+zero_divides : (x : Quad) → DividesParts 0 x → IsZero x
+zero_divides x h = (part x.a h.0, part x.b h.1)
+  where
+    part : (n : ℤ) → 0 ∣ unsigned_abs n → n ≡ pos 0
+    part n h = let e : 0 ≡ unsigned_abs n = dvd_antisymm h (dvd-zero (unsigned_abs n)) in omega (arith, ints)
+
+pub all_zero : (xs : List Quad) → DividesAll 0 xs → All IsZero xs
+all_zero xs all k d h = zero_divides (get_or xs k d) (all k d h)
+
 -- ---- the greatest common divisor of d and a list, where m is the list's
-module _ (xs : List Quad) (d : ℤ) (u m g : ℕ) (f : FitsSigned w128 d) (some : pos 0 <ℤ d) (value : u ≡ unsigned_abs d) (is : IsGcd u m g) where
+module _ (xs : List Quad) (d : ℤ) (u m g : ℕ) (some : pos 0 <ℤ d) (value : u ≡ unsigned_abs d) (is : IsGcd u m g) where
   common_some : 0 < g
   common_some = by_cases g is.0
     where
@@ -77,41 +121,43 @@ module _ (xs : List Quad) (d : ℤ) (u m g : ℕ) (f : FitsSigned w128 d) (some 
       by_cases zero h = let e : 0 ≡ u = dvd_antisymm h (dvd-zero u) in absurd (omega (arith, ints))
       by_cases (suc n) h = omega arith
 
-  pub common_fits : FitsSigned w128 (pos g)
-  common_fits = let le : g ≤ u = le_of_dvd (omega (arith, ints)) is.0 in omega (arith, ints)
-
-  pub common_is : DividesAll m xs → ((k : ℕ) → DividesAll k xs → k ∣ m) → IsCommonDivisor xs d (pos g)
+  pub common_is : DividesAll m xs → ((k : ℕ) → DividesAll k xs → k ∣ m) → IsCommonDivisor xs d g
   common_is all greatest = record {
-    positive = omega (arith, ints, common_some);
+    positive = common_some;
     of_number = subst (λ n. g ∣ n) value is.0;
     of_list = λ k e h. (dvd_trans g is.1 (all k e h).0, dvd_trans g is.1 (all k e h).1);
     greatest = λ k p q. is.2 k (subst (λ n. k ∣ n) (sym value) p) (greatest k q);
   }
 
--- ---- what is left after a division by it
-module _ (xs ys : List Quad) (d g q : ℤ) (c : IsCommonDivisor xs d g) (whole : d ≡ q *ℤ g) where
-  pub quotient_some : pos 0 <ℤ d → pos 0 <ℤ q
-  quotient_some some = by_cases q g c.positive (subst (λ d. pos 0 <ℤ d) whole some)
-    where
-      by_cases : (q g : ℤ) → pos 0 <ℤ g → pos 0 <ℤ (q *ℤ g) → pos 0 <ℤ q
-      by_cases (pos zero) (pos g) s h = absurd (omega (arith, ints, h))
-      by_cases (pos (suc n)) g s h = omega (arith, ints)
-      by_cases (negsuc n) (pos g) s h = absurd (omega (arith, ints, h))
-      by_cases q (negsuc g) s h = absurd (omega (arith, ints, s))
+-- ---- what is left after a division
+-- a divisor of z divides g times as often z·g
+times : (k g : ℕ) (z : ℤ) → k ∣ unsigned_abs z → (k * g) ∣ unsigned_abs (z *ℤ pos g)
+times k g z h = subst (λ m. (k * g) ∣ m) (sym (unsigned_abs-mul z (pos g))) (mul-dvd-mul_right k h g)
 
-  pub nothing_common : xs ≡ map (scaled g) ys → (k : ℕ) → DividesAll k ys → k ∣ unsigned_abs q → k ≡ 1
-  nothing_common same k all of_q =
-      let n = unsigned_abs g in
-      let some : 0 < n = positive_abs g c.positive in
-      let times : (z : ℤ) → k ∣ unsigned_abs z → (k * n) ∣ unsigned_abs (z *ℤ g) =
-      λ z h. subst (λ m. (k * n) ∣ m) (sym (unsigned_abs-mul z g)) (mul-dvd-mul_right k h n)
-      in
-      let of_d : (k * n) ∣ unsigned_abs d = subst (λ d. (k * n) ∣ unsigned_abs d) (sym whole) (times q of_q) in
-      let of_xs : DividesAll (k * n) xs = All-same (DividesParts (k * n)) xs (map (scaled g) ys) same
-      (All-map (DividesParts (k * n)) (scaled g) ys (λ i e h. (times (get_or ys i e).a (all i e h).0, times (get_or ys i e).b (all i e h).1)))
-      in
-      let one : k ∣ 1 = dvd_of_mul-dvd-mul_right {k = n} k some (subst (λ m. (k * n) ∣ m) (omega arith) (c.greatest (k * n) of_d of_xs)) in
-      dvd_antisymm one (one-dvd k)
+-- and one of a list the list times g
+all_times : (k g : ℕ) (xs ys : List Quad) → xs ≡ map (scaled (pos g)) ys → DividesAll k ys → DividesAll (k * g) xs
+all_times k g xs ys same all =
+    All-same (DividesParts (k * g)) xs (map (scaled (pos g)) ys) same
+    (All-map (DividesParts (k * g)) (scaled (pos g)) ys (λ i e h. (times k g (get_or ys i e).a (all i e h).0, times k g (get_or ys i e).b (all i e h).1)))
+
+-- what divides g as often as g is 1
+alone : (k g : ℕ) → 0 < g → (k * g) ∣ g → k ≡ 1
+alone k g some h =
+    let one : k ∣ 1 = dvd_of_mul-dvd-mul_right {k = g} k some (subst (λ m. (k * g) ∣ m) (omega arith) h) in
+    dvd_antisymm one (one-dvd k)
+
+pub primitive_left : (g : ℕ) (xs ys : List Quad) → 0 < g → ((k : ℕ) → DividesAll k xs → k ∣ g) → xs ≡ map (scaled (pos g)) ys → IsPrimitive ys
+primitive_left g xs ys some greatest same k all = alone k g some (greatest (k * g) (all_times k g xs ys same all))
+
+module _ (xs ys : List Quad) (d : ℤ) (g : ℕ) (q : ℤ) (c : IsCommonDivisor xs d g) (whole : d ≡ q *ℤ pos g) where
+  pub quotient_some : pos 0 <ℤ d → pos 0 <ℤ q
+  quotient_some some = by_cases q (subst (λ d. pos 0 <ℤ d) whole some)
     where
-      positive_abs : (g : ℤ) → pos 0 <ℤ g → 0 < unsigned_abs g
-      positive_abs g h = omega (arith, ints)
+      by_cases : (q : ℤ) → pos 0 <ℤ (q *ℤ pos g) → pos 0 <ℤ q
+      by_cases (pos zero) h = absurd (omega (arith, ints, h))
+      by_cases (pos (suc n)) h = omega (arith, ints)
+      by_cases (negsuc n) h = absurd (omega (arith, ints, h))
+
+  pub nothing_common : xs ≡ map (scaled (pos g)) ys → (k : ℕ) → DividesAll k ys → k ∣ unsigned_abs q → k ≡ 1
+  nothing_common same k all of_q =
+      alone k g c.positive (c.greatest (k * g) (subst (λ d. (k * g) ∣ unsigned_abs d) (sym whole) (times k g q of_q)) (all_times k g xs ys same all))

@@ -10,3 +10,4 @@ pub mod Norms
 pub mod Contents
 pub mod Conjugates
 pub mod CallerLemmas
+pub mod SmallProducts

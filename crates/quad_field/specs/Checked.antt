@@ -1,5 +1,6 @@
--- What a checked computation answers, and the steps of the two parts of a product.
-use Rattle.std.specs.Prelude.{◌≡◌, ℕ, ℤ, pos, ◌+ℤ◌, ◌*ℤ◌, List, [], ◌∷◌, Result, Ok, Err}
+-- For private functions alone, no public contract cites it: what a checked computation answers, the steps of the two parts of a product,
+-- and the numbers of which no product is wide.
+use Rattle.std.specs.Prelude.{◌≡◌, ℕ, ◌^◌, ℤ, pos, neg_ℤ, ◌+ℤ◌, ◌*ℤ◌, ◌≤ℤ◌, ◌<ℤ◌, List, [], ◌∷◌, Result, Ok, Err}
 use Rattle.quad_field.specs.declared.quad.Quad.{Quad}
 use Rattle.quad_field.specs.declared.quad.TooWide.{TooWide}
 
@@ -16,3 +17,11 @@ whole_part_steps d x y =
 -- the steps of its other part: a·d, b·c, a·d + b·c
 abbrev pub root_part_steps : Quad → Quad → List ℤ
 root_part_steps x y = (x.a *ℤ y.b) ∷ (x.b *ℤ y.a) ∷ ((x.a *ℤ y.b) +ℤ (x.b *ℤ y.a)) ∷ []
+
+-- -2^53 ≤ n < 2^53
+abbrev pub IsSmall : ℤ → Type 0
+IsSmall n = (neg_ℤ (pos (2 ^ 53)) ≤ℤ n) × (n <ℤ pos (2 ^ 53))
+
+-- all four parts of two numbers are small
+abbrev pub AreSmall : Quad → Quad → Type 0
+AreSmall x y = IsSmall x.a × IsSmall x.b × IsSmall y.a × IsSmall y.b

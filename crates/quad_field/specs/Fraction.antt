@@ -1,4 +1,4 @@
--- Fractions against √d and against its complete quotients (s + √d) / t.
+-- For private functions alone, no public contract cites it: fractions against √d and against its complete quotients (s + √d) / t.
 use Rattle.std.specs.Prelude.{◌≡◌, ℕ, suc, ◌+◌, ◌*◌, ◌-◌, ◌<◌, ◌≤◌}
 
 -- p < q·√d, by squares

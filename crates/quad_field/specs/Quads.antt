@@ -1,6 +1,8 @@
 -- K-integers: a pair (a, b) of whole numbers, without bound, with the value a + b·√D.
 use Rattle.std.specs.Prelude.{◌≡◌, ℕ, ℤ, pos, neg_ℤ, ◌+ℤ◌, ◌-ℤ◌, ◌*ℤ◌, ◌<ℤ◌, ◌≤ℤ◌, ◌⊎◌}
 use Rattle.quad_field.specs.declared.quad.Quad.{Quad}
+use Rattle.quad_field.specs.declared.quad.Sign.{Sign}
+use Rattle.quad_field.specs.declared.quad.Sign.TheVariants.{Minus, Zero, Plus}
 use Rattle.quad_field.specs.Ring.{Ops}
 
 -- the K-integer a + b·√D
@@ -39,3 +41,9 @@ IsPositive d x =
     ((pos 0 ≤ℤ x.a) × (pos 0 ≤ℤ x.b) × ¬ (IsZero x))
     ⊎ (((pos 0 <ℤ x.a) × (x.b <ℤ pos 0) × ((pos d *ℤ (x.b *ℤ x.b)) <ℤ (x.a *ℤ x.a)))
     ⊎ ((x.a <ℤ pos 0) × (pos 0 <ℤ x.b) × ((x.a *ℤ x.a) <ℤ (pos d *ℤ (x.b *ℤ x.b)))))
+
+-- which sign the real number a + b·√D has
+abbrev pub IsSign : ℕ → Quad → Sign → Type 0
+IsSign d x Minus = IsPositive d ((quad_ops d).neg x)
+IsSign d x Zero = IsZero x
+IsSign d x Plus = IsPositive d x

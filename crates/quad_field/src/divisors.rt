@@ -1,12 +1,15 @@
-//! The greatest common divisor of the parts of a list of K-integers, and lists over a common denominator.
+//! The greatest common divisor of the parts of a list of K-integers, and lists with it taken out.
 
-ghost use Rattle.std.specs.Prelude.{◌≡◌, ◌<◌, ℤ, ℕ, pos, ◌*ℤ◌, ◌≤ℤ◌, ◌<ℤ◌, map, unsigned_abs};
+ghost use Rattle.std.specs.Prelude.{◌≡◌, ◌<◌, ℤ, ℕ, pos, ◌*ℤ◌, ◌≤ℤ◌, ◌<ℤ◌, All, map, unsigned_abs};
 ghost use Prim.Native.Nat.{◌∣◌};
 ghost use Rattle.std.specs.Int.{IsGcd};
-ghost use Rattle.quad_field.specs.Content.{DividesAll, IsCancelled, IsCommonDivisor};
-ghost use Rattle.quad_field.specs.Quads.{scaled};
+ghost use Rattle.quad_field.specs.Content.{DividesAll, IsCancelled, IsCommonDivisor, IsPrimitive};
+ghost use Rattle.quad_field.specs.Quads.{scaled, IsZero};
 
 use super::Quad;
+
+/// The greatest number of 64 bits.
+const MAX_64: u128 = u64::MAX as u128;
 
 /// The greatest common divisor of all parts of the list, 0 where all of them are 0.
 pub fn content(list: &[Quad]) -> u128
@@ -15,14 +18,34 @@ pub fn content(list: &[Quad]) -> u128
 {
     let mut g: u128 = 0;
     for x in list {
+        if g == 1 {
+            return 1;
+        }
         let parts = gcd(x.a.unsigned_abs(), x.b.unsigned_abs());
         g = gcd(g, parts);
     }
     g
 }
 
-/// The greatest common divisor, by Euclid's loop.
+/// The greatest common divisor, by Euclid's loop, in 64 bits as soon as both numbers fit.
 fn gcd(a: u128, b: u128) -> u128
+    ensures { IsGcd a b result }
+{
+    let mut x = a;
+    let mut y = b;
+    while y != 0 {
+        if x <= MAX_64 && y <= MAX_64 {
+            return u128::from(gcd_64(x as u64, y as u64));
+        }
+        let rest = x % y;
+        x = y;
+        y = rest;
+    }
+    x
+}
+
+/// The same for numbers of 64 bits.
+fn gcd_64(a: u64, b: u64) -> u64
     ensures { IsGcd a b result }
 {
     let mut x = a;
@@ -33,6 +56,17 @@ fn gcd(a: u128, b: u128) -> u128
         y = rest;
     }
     x
+}
+
+/// Takes the greatest common divisor of all parts out of the numbers. Where all of them are zero they stay as they are.
+pub fn primitive_part(numbers: &mut [Quad])
+    ensures taken_out { (g : ℕ) × (0 < g) × (numbers.old ≡ map (scaled (pos g)) numbers.new) }
+    ensures primitive { ¬ (All IsZero numbers.old) → IsPrimitive numbers.new }
+{
+    let g = content(numbers);
+    if g > 0 {
+        divide_all(numbers, g);
+    }
 }
 
 /// Divides the numbers and their denominator by all that they have in common: the values stay.
@@ -48,19 +82,22 @@ pub fn reduce(nums: &mut [Quad], den: &mut i128)
 }
 
 /// The greatest common divisor of den and all parts of the list.
-fn common_divisor(nums: &[Quad], den: i128) -> i128
+fn common_divisor(nums: &[Quad], den: i128) -> u128
     requires { pos 0 <ℤ den }
     ensures { IsCommonDivisor nums.now den result }
 {
-    gcd(den.unsigned_abs(), content(nums)) as i128
+    gcd(den.unsigned_abs(), content(nums))
 }
 
 /// Divides each number by g.
-fn divide_all(nums: &mut [Quad], g: i128)
-    requires positive { pos 0 <ℤ g }
-    requires divides { DividesAll (unsigned_abs g) nums.old }
-    ensures { nums.old ≡ map (scaled g) nums.new }
+fn divide_all(nums: &mut [Quad], g: u128)
+    requires positive { 0 < g }
+    requires divides { DividesAll g nums.old }
+    ensures { nums.old ≡ map (scaled (pos g)) nums.new }
 {
+    if g == 1 {
+        return;
+    }
     for x in nums.iter_mut() {
         *x = Quad {
             a: quotient(x.a, g),
@@ -70,10 +107,16 @@ fn divide_all(nums: &mut [Quad], g: i128)
 }
 
 /// n / g, where g divides n.
-fn quotient(n: i128, g: i128) -> i128
-    requires positive { pos 0 <ℤ g }
-    requires divides { unsigned_abs g ∣ unsigned_abs n }
-    ensures { n ≡ result *ℤ g }
+fn quotient(n: i128, g: u128) -> i128
+    requires positive { 0 < g }
+    requires divides { g ∣ unsigned_abs n }
+    ensures { n ≡ result *ℤ pos g }
 {
-    n / g
+    if g <= i128::MAX as u128 {
+        n / (g as i128)
+    } else if n == 0 {
+        0
+    } else {
+        -1
+    }
 }

@@ -4,11 +4,11 @@ ghost use Rattle.std.specs.Prelude.{◌≡◌, ◌↔◌, IsOk, IfOk};
 ghost use Rattle.std.specs.Option.{SomeIff};
 ghost use Rattle.quad_field.specs.FieldNumber.{IsFieldNumber};
 ghost use Rattle.std.specs.Prelude.{pos};
-ghost use Rattle.quad_field.specs.Quads.{conjugate_of, quad, quad_ops, scaled, IsPositive, IsZero};
+ghost use Rattle.quad_field.specs.Quads.{conjugate_of, quad, quad_ops, scaled, IsPositive, IsSign, IsZero};
 ghost use Rattle.quad_field.specs.Width.{number, sum, difference, product, negation, scaling, conjugate, StepsFit};
 
 use super::comparison::is_positive;
-use super::product::{root_part, whole_part};
+use super::product::product_of;
 use super::radicand::is_square_free;
 use super::{Quad, Sign, TooWide};
 use std::marker::Model;
@@ -53,6 +53,7 @@ impl Field {
     }
 
     /// x + y, too wide exactly where a part of it lies outside i128.
+    #[inline]
     pub fn add(&self, x: Quad, y: Quad) -> Result<Quad, TooWide>
         ensures exact { IfOk result (λ z. z ≡ (quad_ops self.now).add x y) }
         ensures fits { IsOk result ↔ StepsFit self.now (sum (number x) (number y)) }
@@ -63,6 +64,7 @@ impl Field {
     }
 
     /// x - y, too wide exactly where a part of it lies outside i128.
+    #[inline]
     pub fn sub(&self, x: Quad, y: Quad) -> Result<Quad, TooWide>
         ensures exact { IfOk result (λ z. z ≡ (quad_ops self.now).sub x y) }
         ensures fits { IsOk result ↔ StepsFit self.now (difference (number x) (number y)) }
@@ -73,13 +75,12 @@ impl Field {
     }
 
     /// x·y, too wide exactly where one of its seven steps lies outside i128.
+    #[inline]
     pub fn mul(&self, x: Quad, y: Quad) -> Result<Quad, TooWide>
         ensures exact { IfOk result (λ z. z ≡ (quad_ops self.now).mul x y) }
         ensures fits { IsOk result ↔ StepsFit self.now (product (number x) (number y)) }
     {
-        let a = whole_part(self.d, x, y)?;
-        let b = root_part(x, y)?;
-        Ok(Quad { a, b })
+        product_of(self.d, x, y)
     }
 
     /// -x, too wide exactly where a part of x is the least i128.
@@ -124,6 +125,7 @@ impl Field {
 
     /// The sign of the real number a + b·√D, for every x.
     pub fn sign(&self, x: Quad) -> Sign
+        ensures sign { IsSign self.now x result }
         ensures plus { (result ≡ Sign.Plus) ↔ IsPositive self.now x }
         ensures minus { (result ≡ Sign.Minus) ↔ IsPositive self.now ((quad_ops self.now).neg x) }
         ensures zero { (result ≡ Sign.Zero) ↔ IsZero x }

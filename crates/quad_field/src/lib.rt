@@ -12,7 +12,7 @@ mod product;
 mod quad;
 mod radicand;
 
-pub use divisors::{content, reduce};
+pub use divisors::{content, primitive_part, reduce};
 pub use field::Field;
 pub use formula::{Formula, Wide};
 pub use quad::{Quad, Sign, TooWide};

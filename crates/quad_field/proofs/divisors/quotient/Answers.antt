@@ -1,10 +1,10 @@
-use Rattle.std.proofs.Common.{ap, sym, ◌∙◌}
-use Rattle.std.specs.Prelude.{◌*ℤ◌}
+use Rattle.std.proofs.Common.{of_z, ap}
 use Rattle.std.specs.Int.{w128}
-use Rattle.std.proofs.lemmas.Int.{quot_fits, quot_is}
-use Rattle.quad_field.proofs.Contents.{exact_quotient}
+use Rattle.quad_field.proofs.Contents.{quotient_small, quotient_large}
 use Rattle.quad_field.proofs.divisors.quotient.Goals as goal
 
-pub returns : goal.returns
-returns c =
-    exact_quotient c.args.n c.args.g c.requires.divides ∙ ap (λ q. q *ℤ c.args.g) (sym (quot_is w128 c.args.n c.args.g c.ranges.n c.ranges.g (quot_fits w128 c.args.n c.args.g c.ranges.n c.requires.positive)))
+pub returns-then-g : goal.returns-then-g
+returns-then-g c = quotient_small c.args.n c.args.g c.ranges.n c.requires.positive c.if-g.true c.requires.divides
+
+pub returns-else-n-eq0 : goal.returns-else-n-eq0
+returns-else-n-eq0 c = quotient_large c.args.n c.args.g c.ranges.n c.if-g.false (λ e. c.if-n-eq0.false (ap (of_z w128) e)) c.requires.divides

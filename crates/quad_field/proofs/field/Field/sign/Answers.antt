@@ -13,3 +13,6 @@ returns-else-is_positive-clause-minus c =
     λ z. elim c.else-x-eq0.branch [ else-x-eq0-via-then-x-eq0+else-x-eq0-2 w ↦ omega (arith, ints, z.1) | else-x-eq0-via-else-x-eq0 w ↦ omega (arith, ints, z.0) ] in
     let other : ¬ (IsPositive c.args.self.now c.args.x) = search (rules, to_z-of_z) in
     (λ _. else_negative c.args.self.now c.args.x field some other, λ _. refl)
+
+pub returns-else-is_positive-clause-sign : goal.returns-else-is_positive-clause-sign
+returns-else-is_positive-clause-sign c = (returns-else-is_positive-clause-minus c).0 refl
