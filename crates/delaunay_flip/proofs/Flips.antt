@@ -7,11 +7,8 @@ use Rattle.plane.specs.Vectors.{vector, opposite_vector}
 use Rattle.tri_core.specs.declared.half.Half.{Half}
 use Rattle.tri_core.specs.HalfEdges.{half_at, vector_at, twin_at}
 use Rattle.tri_core.specs.Triangulation.{IsTriangulation}
-use Rattle.tri_core.specs.Flips.{IsEdge, IsFlip}
-use Rattle.tri_core.specs.Slots.{number_after, AreApart}
-use Rattle.tri_core.proofs.Moves.{number_before, number_forth, number_same, before_within, first_not_outer, second_not_outer}
-use Rattle.tri_core.proofs.Triangles.{edge_apart}
-use Rattle.tri_core.proofs.Flipped.{triangulation-flip}
+use Rattle.tri_core.specs.Flips.{IsEdge, IsFlip, number_after, AreApart}
+use Rattle.tri_core.proofs.CallerLemmas.{number_before, number_forth, number_same, before_within, first_not_outer, second_not_outer, edge_apart, triangulation-flip}
 use Rattle.hinge_form.specs.Hinges.{Triple, IsHalfPlanePoint}
 use Rattle.hinge_form.proofs.Hinged.{convex_at}
 use Rattle.delaunay_flip.specs.Flipping.{IsNegative, IsLeast, AfterFlips}
@@ -87,7 +84,7 @@ module _ (d : ℕ) (field : IsFieldNumber d) (q : Triple) (place : IsHalfPlanePo
   -- a flip of an edge of negative value is a triangulation
   pub flip_valid : (halves later : List Half) (h : ℕ) → IsTriangulation d halves → IsNegative d q halves h → IsFlip d halves h later → IsTriangulation d later
   flip_valid halves later h valid negative flip =
-      triangulation-flip d halves h later valid negative.0 (convex_at d halves h q field valid negative.0.0 place (negative_not_positive d field q halves h negative)) flip
+      triangulation-flip d halves h later valid negative.0.0 (convex_at d halves h q field valid negative.0.0 place (negative_not_positive d field q halves h negative)) flip
 
   -- and so is what comes of many flips
   pub after_valid : (n : ℕ) (halves later : List Half) → IsTriangulation d halves → AfterFlips d q n halves later → IsTriangulation d later

@@ -15,7 +15,7 @@ use Rattle.surface_text.specs.declared.file.Glue.{Glue}
 use Rattle.surface_text.specs.Limits.{IsThere, NamesSides}
 use Rattle.tri_core.specs.declared.half.Half.{Half}
 use Rattle.tri_core.specs.HalfEdges.{no_half, half_at, vector_at, twin_at}
-use Rattle.tri_core.specs.Triangulation.{HasTriangles, IsTriangle, IsClosed, TurnsLeft, IsPaired, IsClosedUnderTwins, IsJoined, IsTriangulation}
+use Rattle.tri_core.specs.Triangulation.{HasTriangles, IsTriangle, IsClosed, TurnsInto, IsPaired, IsClosedUnderTwins, IsJoined, IsTriangulation}
 use Rattle.tri_core.specs.Refusals.{HasWide}
 use Rattle.gluing.specs.Polygons.{no_vector, polygon_at, side_at}
 use Rattle.gluing.specs.Gluings.{Gluing, IsGluing, no_glue, glue_at, IsClosedUnderGlues, AreTwins}
@@ -203,7 +203,7 @@ module _ (g : Gluing) (valid : IsGluing g) (halves : List Half) (cutting : IsEar
       let O = quad_ops d in
       ap₂ (vector_sum O) (ap₂ (vector_sum O) vs.first vs.second) vs.third ∙ (good t below).closed
 
-  turns : (t : ℕ) → IsTriangle halves t → TurnsLeft d halves t
+  turns : (t : ℕ) → IsTriangle halves t → TurnsInto d halves (3 * t) (3 * t + 1)
   turns t triangle =
       let below = triangle_below t triangle in
       let vs = vectors_at t below in

@@ -9,7 +9,7 @@ use Rattle.plane.specs.Vectors.{Vector, opposite_vector}
 use Rattle.tri_core.specs.declared.half.Half.{Half}
 use Rattle.tri_core.specs.HalfEdges.{vector_at, twin_at, next_of, previous_of}
 use Rattle.tri_core.specs.Triangulation.{IsTriangulation}
-use Rattle.tri_core.specs.Flips.{IsFlip, moved}
+use Rattle.tri_core.specs.Flips.{IsFlip, number_after}
 use Rattle.hinge_form.specs.Hinges.{Triple, hinge_value}
 use Rattle.hinge_form.proofs.Turned.{third_side, diagonal_value}
 use Rattle.hinge_form.proofs.Sides.{IsTriple, opposite_flat, opposite_twice}
@@ -54,19 +54,19 @@ module _ (d : ℕ) (halves later : List Half) (h : ℕ) (field : IsFieldNumber d
       (sym (opposite_twice O (quad_ring d) (vector_at halves h)) ∙ ap (opposite_vector O) (sym (ap (vector_at halves) same ∙ (valid.paired h below).2)))
 
   -- where the half-edges go
-  next_moved : moved halves h (next_of h) ≡ previous_of h
+  next_moved : number_after h g (next_of h) ≡ previous_of h
   next_moved = cycled-first (next_of h) (previous_of h) (next_of g) (previous_of g) (next_of h) refl
 
-  previous_moved : moved halves h (previous_of h) ≡ next_of g
+  previous_moved : number_after h g (previous_of h) ≡ next_of g
   previous_moved = cycled-second (next_of h) (previous_of h) (next_of g) (previous_of g) (previous_of h) (omega arith) refl
 
-  stays : moved halves h h ≡ h
+  stays : number_after h g h ≡ h
   stays =
       let other = previous_not_twin in
       let more = next_not_twin in
       cycled-other (next_of h) (previous_of h) (next_of g) (previous_of g) h (omega arith) (omega arith) (λ e. other (omega arith)) (λ e. more (omega arith))
 
-  twin_stays : moved halves h g ≡ g
+  twin_stays : number_after h g g ≡ g
   twin_stays = cycled-other (next_of h) (previous_of h) (next_of g) (previous_of g) g (λ e. next_not_twin (sym e)) (λ e. previous_not_twin (sym e)) (omega arith) (omega arith)
 
   later_twin : twin_at later h ≡ g

@@ -10,8 +10,8 @@ use Rattle.quad_field.proofs.CallerLemmas.{quad_ring, order_of}
 use Rattle.plane.specs.Vectors.{Vector, opposite_vector}
 use Rattle.tri_core.specs.declared.half.Half.{Half}
 use Rattle.tri_core.specs.HalfEdges.{vector_at, twin_at, next_of, previous_of}
-use Rattle.tri_core.specs.Triangulation.{IsTriangulation}
-use Rattle.tri_core.specs.Flips.{TurnsInto, IsStrictlyConvex, next_of_twin, previous_of_twin}
+use Rattle.tri_core.specs.Triangulation.{TurnsInto, IsTriangulation}
+use Rattle.tri_core.specs.Flips.{IsStrictlyConvex, next_of_twin, previous_of_twin}
 use Rattle.hinge_form.specs.Hinges.{Triple, IsHalfPlanePoint, hinge_a, hinge_c, hinge_d, hinge_value, full_triple, times, IsHingeTriple}
 use Rattle.hinge_form.proofs.Turned.{third_side, flat_place, twin_value, determinant_opposite_first, determinant_opposite_second}
 use Rattle.hinge_form.proofs.Rises.{turns_where_not_positive, flat_positive}

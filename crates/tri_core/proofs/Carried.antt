@@ -5,7 +5,8 @@ use Rattle.std.proofs.lemmas.Bool.{cases_eq}
 use Rattle.plane.specs.declared.vec2.Vec2.{Vec2}
 use Rattle.tri_core.specs.declared.half.Half.{Half}
 use Rattle.tri_core.specs.HalfEdges.{half_at, twin_at, next_of, previous_of, no_half}
-use Rattle.tri_core.specs.Slots.{number_after, IsOuter, AreApart, HasPairs, IsCarried, linked_back}
+use Rattle.tri_core.specs.Flips.{number_after, IsOuter, AreApart}
+use Rattle.tri_core.specs.Slots.{HasPairs, IsCarried, linked_back}
 use Rattle.tri_core.proofs.Moves.{cycled-first, cycled-second, cycled-third, cycled-fourth, number_same, outer_or_not, number_injective, number_within}
 use Rattle.tri_core.proofs.Stores.{AreSix, six, six_stores, six_stores-length, six_stores-h, six_stores-g, six_stores-n, six_stores-p, six_stores-q, six_stores-r, six_stores-other}
 

@@ -1,10 +1,15 @@
-pub mod Neighbours
-pub mod Vectors
-pub mod Causes
-pub mod Moves
-pub mod Stores
-pub mod Carried
-pub mod Links
-pub mod Quadrilaterals
-pub mod Triangles
-pub mod Flipped
+pub mod CallerLemmas
+mod Neighbours
+mod Vectors
+mod Quadrilaterals
+mod Triangles
+mod Moves
+mod Causes
+mod Stores
+mod Carried
+mod Links
+mod Leaves
+mod Flipped
+mod Unique
+mod Connected
+mod Handed

@@ -4,7 +4,8 @@ use Rattle.std.proofs.lemmas.Bool.{cases_eq}
 use Rattle.plane.specs.declared.vec2.Vec2.{Vec2}
 use Rattle.tri_core.specs.declared.half.Half.{Half}
 use Rattle.tri_core.specs.HalfEdges.{twin_at, next_of, previous_of}
-use Rattle.tri_core.specs.Slots.{IsOuter, AreApart, HasPairs, IsCarried, linked_back}
+use Rattle.tri_core.specs.Flips.{IsOuter, AreApart}
+use Rattle.tri_core.specs.Slots.{HasPairs, IsCarried, linked_back}
 use Rattle.tri_core.proofs.Moves.{cycled-first, cycled-second, cycled-third, cycled-fourth}
 use Rattle.tri_core.proofs.Stores.{AreSix, six}
 use Rattle.tri_core.proofs.Carried.{slot-within, carried-link}

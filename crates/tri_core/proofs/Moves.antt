@@ -1,15 +1,18 @@
 -- Where the numbers of half-edges go in a flip.
-use Rattle.std.proofs.Common.{◌≡◌, ◌≢◌, ◌⊎◌, ℕ, ◌%◌, ◌<◌, refl, sym, ◌∙◌, ap, inl, inr, arith}
+use Rattle.std.proofs.Common.{◌≡◌, ◌≢◌, ◌⊎◌, ℕ, ◌%◌, ◌<◌, ◌==◌, if◌then◌else◌, refl, sym, ◌∙◌, ap, inl, inr, arith}
 use Rattle.std.proofs.lemmas.Bool.{cases_eq}
 use Rattle.tri_core.specs.HalfEdges.{next_of, previous_of, triangle_of}
-use Rattle.tri_core.specs.Slots.{cycled, number_after, IsOuter}
+use Rattle.tri_core.specs.Flips.{number_after, IsOuter}
+use Rattle.tri_core.proofs.Triangles.{side_next, side_previous}
 
--- the half-edges round a triangle
-pub side_next : (h : ℕ) → triangle_of (next_of h) ≡ triangle_of h
-side_next h = omega arith
-
-pub side_previous : (h : ℕ) → triangle_of (previous_of h) ≡ triangle_of h
-side_previous h = omega arith
+-- each of four numbers becomes the next of them, and the last the first; every other number stays
+abbrev pub cycled : ℕ → ℕ → ℕ → ℕ → ℕ → ℕ
+cycled n p q r k =
+    if k == n then p
+    else if k == p then q
+    else if k == q then r
+    else if k == r then n
+    else k
 
 -- four numbers that are all different
 pub record AreFour (n p q r : ℕ) : Type 0 where
@@ -56,6 +59,22 @@ cycled-back n p q r k f =
         ]
       ]
     ]
+
+-- a cycle of four numbers from its third on
+pub cycled_from_third : (n p q r k : ℕ) → AreFour n p q r → AreFour q r n p → cycled q r n p k ≡ cycled n p q r k
+cycled_from_third n p q r k f g = elim (cases_eq k n) [
+  | inl e ↦ cycled-third q r n p k g e ∙ sym (cycled-first n p q r k e)
+  | inr a ↦ elim (cases_eq k p) [
+    | inl e ↦ cycled-fourth q r n p k g e ∙ sym (cycled-second n p q r k f e)
+    | inr b ↦ elim (cases_eq k q) [
+      | inl e ↦ cycled-first q r n p k e ∙ sym (cycled-third n p q r k f e)
+      | inr c ↦ elim (cases_eq k r) [
+        | inl e ↦ cycled-second q r n p k g e ∙ sym (cycled-fourth n p q r k f e)
+        | inr d ↦ cycled-other q r n p k c d a b ∙ sym (cycled-other n p q r k a b c d)
+      ]
+    ]
+  ]
+]
 
 -- the numbers of two triangles are all different
 pub outer_four : (h g : ℕ) → ¬ (triangle_of h ≡ triangle_of g) → AreFour (next_of h) (previous_of h) (next_of g) (previous_of g)
@@ -142,8 +161,8 @@ outer_triangle h g k o = elim o [
   | inr o ↦ elim o [ inl e ↦ inl (omega arith) | inr o ↦ elim o [ inl e ↦ inr (omega arith) | inr e ↦ inr (omega arith) ] ]
 ]
 
-pub moved_triangle : (h g k : ℕ) → ¬ (triangle_of h ≡ triangle_of g) → IsOuter h g k → (triangle_of (number_after h g k) ≡ triangle_of h) ⊎ (triangle_of (number_after h g k) ≡ triangle_of g)
-moved_triangle h g k apart o =
+pub after_triangle : (h g k : ℕ) → ¬ (triangle_of h ≡ triangle_of g) → IsOuter h g k → (triangle_of (number_after h g k) ≡ triangle_of h) ⊎ (triangle_of (number_after h g k) ≡ triangle_of g)
+after_triangle h g k apart o =
     let f = outer_four h g apart in
     let n : ℕ = next_of h in
     let p : ℕ = previous_of h in

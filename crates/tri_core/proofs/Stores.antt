@@ -3,7 +3,7 @@ use Rattle.std.proofs.Common.{◌≡◌, ◌≢◌, ℕ, ◌<◌, List, length, 
 use Rattle.std.proofs.lemmas.List.{get_or-set_same, get_or-set_other, length-set}
 use Rattle.tri_core.specs.declared.half.Half.{Half}
 use Rattle.tri_core.specs.HalfEdges.{half_at, triangle_of, next_of, previous_of}
-use Rattle.tri_core.specs.Slots.{AreApart}
+use Rattle.tri_core.specs.Flips.{AreApart}
 use Rattle.tri_core.proofs.Moves.{AreFour, outer_four}
 
 -- a list after six stores

@@ -5,7 +5,7 @@ use Rattle.quad_field.specs.declared.quad.Quad.{Quad}
 use Rattle.plane.specs.Vectors.{Vector, vector}
 use Rattle.tri_core.specs.declared.half.Half.{Half}
 
--- what is read past the end of a list; no definition asks it there
+-- what is read past the end of a list: a half-edge without length, which no triangulation has
 abbrev pub no_half : Half
 no_half = record { vec = record { s = quad (pos 0) (pos 0); t = quad (pos 0) (pos 0) }; twin = 0 }
 

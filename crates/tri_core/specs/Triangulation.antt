@@ -1,6 +1,7 @@
 -- Triangulations: 2 to 256 triangles whose vectors sum to zero and turn to the left, paired side by side, and connected.
-use Rattle.std.specs.Prelude.{◌≡◌, ℕ, pos, ◌+◌, ◌*◌, ◌%◌, ◌<◌, ◌≤◌, Bool, IsTrue, List, length}
+use Rattle.std.specs.Prelude.{◌≡◌, ℕ, ◌+◌, ◌*◌, ◌%◌, ◌<◌, ◌≤◌, Bool, IsTrue, List, length}
 use Rattle.quad_field.specs.Quads.{quad_ops, IsPositive}
+use Rattle.rings.specs.Vectors.{zero_vector}
 use Rattle.plane.specs.Vectors.{det, vector_sum, opposite_vector}
 use Rattle.tri_core.specs.declared.half.Half.{Half}
 use Rattle.tri_core.specs.HalfEdges.{vector_at, twin_at, triangle_of}
@@ -17,11 +18,11 @@ IsTriangle halves t = 3 * t < length halves
 abbrev pub IsClosed : ℕ → List Half → ℕ → Type 0
 IsClosed d halves t =
     let O = quad_ops d in
-    vector_sum O (vector_sum O (vector_at halves (3 * t)) (vector_at halves (3 * t + 1))) (vector_at halves (3 * t + 2)) ≡ (O.int (pos 0), O.int (pos 0))
+    vector_sum O (vector_sum O (vector_at halves (3 * t)) (vector_at halves (3 * t + 1))) (vector_at halves (3 * t + 2)) ≡ zero_vector O
 
--- the first two vectors of triangle t have a positive determinant
-abbrev pub TurnsLeft : ℕ → List Half → ℕ → Type 0
-TurnsLeft d halves t = IsPositive d (det (quad_ops d) (vector_at halves (3 * t)) (vector_at halves (3 * t + 1)))
+-- half-edge k turns to the left into half-edge m: their determinant is positive
+abbrev pub TurnsInto : ℕ → List Half → ℕ → ℕ → Type 0
+TurnsInto d halves k m = IsPositive d (det (quad_ops d) (vector_at halves k) (vector_at halves m))
 
 -- the twin of h is a half-edge whose twin is h and whose vector is opposite
 abbrev pub IsPaired : ℕ → List Half → ℕ → Type 0
@@ -43,7 +44,7 @@ IsJoined halves t = (set : ℕ → Bool) → IsTrue (set 0) → IsClosedUnderTwi
 pub record IsTriangulation (d : ℕ) (halves : List Half) : Type 0 where
   pub count : HasTriangles halves
   pub closed : (t : ℕ) → IsTriangle halves t → IsClosed d halves t
-  pub turns : (t : ℕ) → IsTriangle halves t → TurnsLeft d halves t
+  pub turns : (t : ℕ) → IsTriangle halves t → TurnsInto d halves (3 * t) (3 * t + 1)
   pub paired : (h : ℕ) → h < length halves → IsPaired d halves h
   pub joined : (t : ℕ) → IsTriangle halves t → IsJoined halves t
 

@@ -6,8 +6,8 @@ ghost use Rattle.quad_field.specs.Width.{term_ops};
 ghost use Rattle.quad_field.specs.declared.formula.Formula.TheVariants.{F12};
 ghost use Rattle.plane.specs.Vectors.{vector, vector_term, vector_sum, opposite_vector, VectorFits};
 ghost use Rattle.tri_core.specs.HalfEdges.{vector_at, twin_at, next_of, previous_of};
-ghost use Rattle.tri_core.specs.Flips.{previous_of_twin, DiagonalFits};
-ghost use Rattle.tri_core.specs.Slots.{number_after, IsOuter, AreApart, HasPairs, IsCarried, linked_back};
+ghost use Rattle.tri_core.specs.Flips.{previous_of_twin, DiagonalFits, number_after, IsOuter, AreApart};
+ghost use Rattle.tri_core.specs.Slots.{HasPairs, IsCarried, linked_back};
 
 use super::{Half, Tri};
 use plane::{Vec2, opposite, sum};
@@ -44,7 +44,7 @@ fn previous(h: u32) -> u32
 }
 
 /// The number that half-edge k has after the flip at an edge with this twin.
-fn moved(edge: u32, twin: u32, k: u32) -> u32
+fn number_after(edge: u32, twin: u32, k: u32) -> u32
     requires edge { edge < 768 }
     requires twin { twin < 768 }
     ensures { result ≡ number_after edge twin k }
@@ -71,7 +71,7 @@ fn carried(edge: u32, twin: u32, half: Half) -> Half
 {
     Half {
         vec: half.vec,
-        twin: moved(edge, twin, half.twin),
+        twin: number_after(edge, twin, half.twin),
     }
 }
 

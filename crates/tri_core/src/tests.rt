@@ -2,7 +2,8 @@
 
 ghost use Rattle.std.specs.Prelude.{◌≡◌, ◌<◌, IsTrue, IfOk, IsSome, IfSome};
 ghost use Rattle.tri_core.specs.HalfEdges.{twin_at, previous_of};
-ghost use Rattle.tri_core.specs.Flips.{TurnsInto, IsEdge, IsStrictlyConvex};
+ghost use Rattle.tri_core.specs.Triangulation.{TurnsInto};
+ghost use Rattle.tri_core.specs.Flips.{IsEdge, IsStrictlyConvex};
 
 use super::{BadTri, Half, Tri};
 use plane::{Vec2, det};

@@ -111,7 +111,7 @@ impl Tri {
         ensures made { IfOk result (λ tri. tri ≡ record { field = f.now; halves = halves.items }) }
         ensures valid { OnOk result (IsTriangulation f.now halves.items) }
         ensures cause { IfErr result (IsCause f.now halves.items) }
-        ensures count { IsErrOf result BadTri.Count ↔ IsCause f.now halves.items BadTri.Count }
+        ensures count { IsErrOf result BadTri.Count ↔ ¬ (HasTriangles halves.items) }
         // The other way round: what has its cause is answered, unless width or memory stands in its place.
         ensures accepted { IsTriangulation f.now halves.items → IfErr result IsFree }
         ensures refused { (bad : Refusal) → IsForced bad → IsCause f.now halves.items bad
@@ -122,6 +122,17 @@ impl Tri {
             field: f.number(),
             halves,
         })
+    }
+
+    /// The triangulation of half-edges that are known to be one. It takes no memory, and a determinant of them may be wide.
+    pub fn known(f: &Field, halves: Vec<Half>) -> Tri
+        requires { IsTriangulation f.now halves.items }
+        ensures { result ≡ record { field = f.now; halves = halves.items } }
+    {
+        Tri {
+            field: f.number(),
+            halves,
+        }
     }
 
     /// How many triangles it has.
@@ -167,6 +178,15 @@ impl Tri {
             field: self.field,
             halves,
         })
+    }
+
+    /// Whether the other diagonal of the quadrilateral at a half-edge, and its opposite, can be had without a wide step.
+    pub fn diagonal_fits(&self, f: &Field, edge: u32) -> bool
+        requires field { f.now ≡ self.now.field }
+        requires edge { edge < length self.now.halves }
+        ensures { IsTrue result ↔ DiagonalFits self.now.field self.now.halves edge }
+    {
+        new_diagonal(f, self.halves.as_slice(), edge).is_ok()
     }
 
     /// Replaces an edge by the other diagonal of its quadrilateral, in place and without memory.

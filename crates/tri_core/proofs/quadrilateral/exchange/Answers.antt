@@ -2,7 +2,8 @@ use Rattle.std.proofs.Common.{ℕ, List}
 use Rattle.plane.specs.declared.vec2.Vec2.{Vec2}
 use Rattle.tri_core.specs.declared.half.Half.{Half}
 use Rattle.tri_core.specs.HalfEdges.{twin_at}
-use Rattle.tri_core.specs.Slots.{IsCarried, IsOuter}
+use Rattle.tri_core.specs.Flips.{IsOuter}
+use Rattle.tri_core.specs.Slots.{IsCarried}
 use Rattle.tri_core.proofs.Links.{LeftOne, LeftTwo, LeftThree, first-within, first-link, second-within, second-link, third-within, third-link, fourth-within, fourth-link}
 use Rattle.tri_core.proofs.quadrilateral.exchange.Goals as goal
 

@@ -1,17 +1,17 @@
 use Rattle.std.proofs.Common.{◌≡◌, ◌∙◌, ap}
 use Rattle.tri_core.specs.Triangulation.{Triangulation}
-use Rattle.tri_core.proofs.Flipped.{apart-named, flip-named, handed-flip, handed-triangulation}
+use Rattle.tri_core.proofs.Handed.{apart-named, flip-named, handed-flip, handed-triangulation}
 use Rattle.tri_core.proofs.tri.Tri.flip.Goals as goal
 
 pub new_diagonal-requires-clause-apart : goal.new_diagonal-requires-clause-apart
 new_diagonal-requires-clause-apart c =
     apart-named c.self.inside.field c.args.self.now.halves c.self.inside.halves.items c.as_slice.result.now c.args.edge
-    (ap (λ (t : Triangulation). t.halves) c.self.view_is) c.as_slice.ensures.value c.self.invariant c.requires.edge
+    (ap (λ (t : Triangulation). t.halves) c.self.view_is) c.as_slice.ensures.value c.self.invariant c.requires.edge.0
 
 pub exchange-requires-clause-apart : goal.exchange-requires-clause-apart
 exchange-requires-clause-apart c =
     apart-named c.self.inside.field c.args.self.now.halves c.self.inside.halves.items c.as_mut_slice.result.now c.args.edge
-    (ap (λ (t : Triangulation). t.halves) c.self.view_is) c.as_mut_slice.ensures.value c.self.invariant c.requires.edge
+    (ap (λ (t : Triangulation). t.halves) c.self.view_is) c.as_mut_slice.ensures.value c.self.invariant c.requires.edge.0
 
 pub invariant_of-self : goal.invariant_of-self
 invariant_of-self c =
