@@ -10,7 +10,7 @@ use Rattle.tri_core.specs.Triangulation.{IsTriangulation}
 use Rattle.tri_core.specs.Flips.{IsEdge, IsFlip, number_after, AreApart}
 use Rattle.tri_core.proofs.CallerLemmas.{number_before, number_forth, number_same, before_within, first_not_outer, second_not_outer, edge_apart, triangulation-flip}
 use Rattle.hinge_form.specs.Hinges.{Triple, IsHalfPlanePoint}
-use Rattle.hinge_form.proofs.Hinged.{convex_at}
+use Rattle.hinge_form.proofs.CallerLemmas.{convex_at}
 use Rattle.delaunay_flip.specs.Flipping.{IsNegative, IsLeast, AfterFlips}
 use Rattle.delaunay_flip.proofs.Signs.{negative_not_positive}
 

@@ -1,5 +1,4 @@
 pub mod Fractions
-pub mod Triples
 pub mod Signs
 pub mod Flips
 pub mod Seeing

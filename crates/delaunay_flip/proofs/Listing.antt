@@ -8,7 +8,7 @@ use Rattle.surface_text.specs.declared.file.Point.{Point}
 use Rattle.surface_text.specs.Limits.{IsBasePoint}
 use Rattle.tri_core.specs.declared.half.Half.{Half}
 use Rattle.tri_core.specs.Triangulation.{Triangulation, IsTriangulation}
-use Rattle.hinge_form.proofs.Points.{place_inside}
+use Rattle.hinge_form.proofs.CallerLemmas.{place_inside}
 use Rattle.delaunay_flip.specs.Bases.{Ending, EndsAt, EndsListed, IsDecisive}
 use Rattle.delaunay_flip.specs.Bases.Ending.{strict, not_strict, flips_ended, wide}
 use Rattle.delaunay_flip.specs.Answers.{Says, IsForMemory, IsRight}

@@ -9,16 +9,15 @@ use Rattle.rings.proofs.Ordered.{factor_negative, factor_zero, product_negative,
 use Rattle.quad_field.specs.declared.quad.Quad.{Quad}
 use Rattle.quad_field.specs.FieldNumber.{IsFieldNumber}
 use Rattle.quad_field.specs.Quads.{quad, quad_ops, scaled, IsPositive, IsZero}
-use Rattle.quad_field.proofs.CallerLemmas.{quad_ring, order_of, scaled_is}
+use Rattle.quad_field.proofs.CallerLemmas.{quad_ring, order_of, scaled_is, natural_positive}
 use Rattle.tri_core.specs.declared.half.Half.{Half}
 use Rattle.tri_core.specs.Triangulation.{IsTriangulation}
 use Rattle.tri_core.specs.Flips.{IsEdge}
 use Rattle.hinge_form.specs.Hinges.{Triple, hinge_value, of_form, of_place, value_of, ValueFits, IsHingeTriple, IsStrictAt}
 use Rattle.hinge_form.specs.declared.form.Form.{Form}
 use Rattle.hinge_form.specs.declared.place.Place3.{Place3}
-use Rattle.hinge_form.proofs.Hinged.{value_multiple}
+use Rattle.hinge_form.proofs.CallerLemmas.{value_multiple, one_triple}
 use Rattle.delaunay_flip.specs.Flipping.{IsNegative, IsZeroAt, IsDelaunay, TripleValueFits, ValueFitsAt}
-use Rattle.delaunay_flip.proofs.Triples.{one_triple, whole_positive}
 
 -- a positive multiple of v has the sign of v
 module _ (d : ℕ) (field : IsFieldNumber d) (g : ℕ) (some : 1 ≤ g) (v w : Quad) (is : w ≡ scaled (pos g) v) where
@@ -27,7 +26,7 @@ module _ (d : ℕ) (field : IsFieldNumber d) (g : ℕ) (some : 1 ≤ g) (v w : Q
       is ∙ scaled_is d (pos g) v ∙ identity (quad_ops d) (quad_ring d) (v ∷ (quad_ops d).int (pos g) ∷ []) (expr.mul (var 1) (var 0)) (expr.mul (var 0) (var 1)) tt
 
   g_positive : IsPositive d ((quad_ops d).int (pos g))
-  g_positive = whole_positive d g some
+  g_positive = natural_positive d g some
 
   pub negative_multiple : IsPositive d ((quad_ops d).neg v) ↔ IsPositive d ((quad_ops d).neg w)
   negative_multiple = (

@@ -11,8 +11,7 @@ use Rattle.quad_field.specs.declared.quad.Quad.{Quad}
 use Rattle.quad_field.specs.Content.{DividesAll, DividesParts}
 use Rattle.quad_field.specs.Quads.{quad, scaled}
 use Rattle.quad_field.proofs.CallerLemmas.{exact_quotient}
-use Rattle.hinge_form.specs.Hinges.{Triple, times}
-use Rattle.hinge_form.proofs.Multiples.{zeros, times_zero}
+use Rattle.hinge_form.specs.Triples.{Triple, zeros}
 
 -- n / g where g is an i128
 pub quotient_small : (n : ℤ) (g : ℕ) → FitsSigned w128 n → 0 < g → g ≤ 170141183460469231731687303715884105727 → g ∣ unsigned_abs n
@@ -44,10 +43,9 @@ zero_divides x h i = quad (part x.a h.0 i) (part x.b h.1 i)
     part n h = let e : 0 ≡ unsigned_abs n = dvd_antisymm h (dvd-zero (unsigned_abs n)) in omega (arith, ints)
 
 -- the content of a triple that isn't zero is above 0
-pub content_some : (g : ℕ) (l : Triple) → ¬ (l ≡ times 0 l) → DividesAll g (l.0 ∷ l.1 ∷ l.2 ∷ []) → 0 < g
+pub content_some : (g : ℕ) (l : Triple) → ¬ (l ≡ zeros) → DividesAll g (l.0 ∷ l.1 ∷ l.2 ∷ []) → 0 < g
 content_some zero l some h =
-    let none : l ≡ zeros = λ i. (zero_divides l.0 (h 0 l.0 (omega arith)) i, zero_divides l.1 (h 1 l.1 (omega arith)) i, zero_divides l.2 (h 2 l.2 (omega arith)) i) in
-    absurd (some (none ∙ sym (times_zero 2 l)))
+    absurd (some (λ i. (zero_divides l.0 (h 0 l.0 (omega arith)) i, zero_divides l.1 (h 1 l.1 (omega arith)) i, zero_divides l.2 (h 2 l.2 (omega arith)) i)))
 content_some (suc g) l some h = omega arith
 
 -- what is left has no divisor

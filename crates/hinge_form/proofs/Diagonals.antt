@@ -10,7 +10,8 @@ use Rattle.tri_core.specs.declared.half.Half.{Half}
 use Rattle.tri_core.specs.HalfEdges.{vector_at, twin_at, next_of, previous_of}
 use Rattle.tri_core.specs.Triangulation.{IsTriangulation}
 use Rattle.tri_core.specs.Flips.{IsFlip, number_after}
-use Rattle.hinge_form.specs.Hinges.{Triple, hinge_value}
+use Rattle.hinge_form.specs.Triples.{Triple}
+use Rattle.hinge_form.specs.Hinges.{hinge_value}
 use Rattle.hinge_form.proofs.Turned.{third_side, diagonal_value}
 use Rattle.hinge_form.proofs.Sides.{IsTriple, opposite_flat, opposite_twice}
 use Rattle.hinge_form.proofs.Hinged.{own_triple, turned_triple, next_is, behind_is}

@@ -1,8 +1,10 @@
 -- The hinge of a half-edge of a triangulation: its determinants, its value, and that of its twin.
-use Rattle.std.proofs.Common.{◌≡◌, ℕ, zero, suc, ◌<◌, ◌≤◌, List, length, sym, ◌∙◌, ap, subst, arith}
+use Rattle.std.proofs.Common.{◌≡◌, ℕ, ◌<◌, ◌≤◌, List, length, sym, ◌∙◌, ap, subst}
 use Rattle.std.specs.Prelude.{pos}
 use Rattle.rings.specs.Forms.{det, value_at, three_row_determinant}
+use Rattle.rings.specs.Lines.{HasPositiveFactor}
 use Rattle.rings.proofs.Forms as forms
+use Rattle.rings.proofs.Multiples.{form_by_values, some_out}
 use Rattle.quad_field.specs.declared.quad.Quad.{Quad}
 use Rattle.quad_field.specs.FieldNumber.{IsFieldNumber}
 use Rattle.quad_field.specs.Quads.{quad_ops, scaled, IsPositive}
@@ -12,11 +14,12 @@ use Rattle.tri_core.specs.declared.half.Half.{Half}
 use Rattle.tri_core.specs.HalfEdges.{vector_at, twin_at, next_of, previous_of}
 use Rattle.tri_core.specs.Triangulation.{TurnsInto, IsTriangulation}
 use Rattle.tri_core.specs.Flips.{IsStrictlyConvex, next_of_twin, previous_of_twin}
-use Rattle.hinge_form.specs.Hinges.{Triple, IsHalfPlanePoint, hinge_a, hinge_c, hinge_d, hinge_value, full_triple, times, IsHingeTriple}
+use Rattle.hinge_form.specs.Triples.{Triple, zeros}
+use Rattle.hinge_form.specs.Hinges.{IsHalfPlanePoint, hinge_a, hinge_c, hinge_d, hinge_value, full_triple, IsHingeTriple}
 use Rattle.hinge_form.proofs.Turned.{third_side, flat_place, twin_value, determinant_opposite_first, determinant_opposite_second}
 use Rattle.hinge_form.proofs.Rises.{turns_where_not_positive, flat_positive}
 use Rattle.hinge_form.proofs.Sides.{IsTriple, triple_turned, triple_third, triple_at}
-use Rattle.hinge_form.proofs.Multiples.{zeros, times_zero, times_zeros, times_value, zeros_value}
+use Rattle.hinge_form.proofs.Multiples.{times_value, zeros_value, divisor_some, reduced_factor}
 
 -- the value of a hinge is that of its triple
 pub value_of_triple : (d : ℕ) (halves : List Half) (h : ℕ) (q : Triple) → hinge_value d halves h q ≡ value_at (quad_ops d) (full_triple d halves h) q
@@ -73,6 +76,12 @@ module _ (d : ℕ) (halves : List Half) (h : ℕ) (valid : IsTriangulation d hal
       ∙ ap (λ (v : Vector Quad). three_row_determinant O q (back a) (back (third_side O (back a) e)) v) next_is
       ∙ twin_value O (quad_ring d) q a p e
 
+  -- and one triple
+  pub full_triple-twin : full_triple d halves (twin_at halves h) ≡ full_triple d halves h
+  full_triple-twin =
+      form_by_values (quad_ops d) (quad_ring d) (full_triple d halves (twin_at halves h)) (full_triple d halves h)
+      (λ q. sym (value_of_triple d halves (twin_at halves h) q) ∙ value_from_twin q ∙ value_of_triple d halves h q)
+
   module _ (field : IsFieldNumber d) where
     -- the triple is not zero
     pub full_some : ¬ (full_triple d halves h ≡ zeros)
@@ -83,26 +92,22 @@ module _ (d : ℕ) (halves : List Half) (h : ℕ) (valid : IsTriangulation d hal
         (subst (IsPositive d) (value_of_triple d halves h q ∙ ap (λ (l : Triple). value_at O l q) none ∙ zeros_value d q)
         (flat_positive O (quad_ring d) (order_of d field) (hinge_a halves h) (hinge_c d halves h) (hinge_d halves h) first_positive second_positive))
 
-    pub full_not_zero : ¬ (full_triple d halves h ≡ times 0 (full_triple d halves h))
-    full_not_zero none = full_some (none ∙ times_zero d (full_triple d halves h))
+    module _ (l : Triple) (t : IsHingeTriple d halves h l) where
+      -- it is the reduced triple times a positive K-integer
+      pub hinge_factor : HasPositiveFactor (quad_ops d) (IsPositive d) (full_triple d halves h) l
+      hinge_factor = reduced_factor d (full_triple d halves h) l full_some t
 
-    -- nor is that without a common divisor
-    pub reduced_not_zero : (l : Triple) → IsHingeTriple d halves h l → ¬ (l ≡ times 0 l)
-    reduced_not_zero l t none = full_some (t.taken_out ∙ ap (times t.divisor) (none ∙ times_zero d l) ∙ times_zeros d t.divisor)
+      -- which isn't zero either
+      pub hinge_some : ¬ (l ≡ zeros)
+      hinge_some = some_out (quad_ops d) (quad_ring d) (order_of d field) (full_triple d halves h) l hinge_factor full_some
 
-    -- what is taken out is a whole number above 0
-    pub divisor_some : (g : ℕ) (l : Triple) → full_triple d halves h ≡ times g l → 1 ≤ g
-    divisor_some zero l out = absurd (full_some (out ∙ times_zero d l))
-    divisor_some (suc g) l out = omega arith
-
-    -- the value is a multiple of that of the reduced triple
-    pub value_multiple : (l : Triple) → IsHingeTriple d halves h l
-        → (g : ℕ) × (1 ≤ g) × ((q : Triple) → hinge_value d halves h q ≡ scaled (pos g) (value_at (quad_ops d) l q))
-    value_multiple l t = (
-      t.divisor,
-      divisor_some t.divisor l t.taken_out,
-      λ q. value_of_triple d halves h q ∙ ap (λ (m : Triple). value_at (quad_ops d) m q) t.taken_out ∙ times_value d t.divisor l q,
-    )
+      -- and is a whole number
+      pub value_multiple : (g : ℕ) × (1 ≤ g) × ((q : Triple) → hinge_value d halves h q ≡ scaled (pos g) (value_at (quad_ops d) l q))
+      value_multiple = (
+        t.divisor,
+        divisor_some t.divisor (full_triple d halves h) l t.taken_out full_some,
+        λ q. value_of_triple d halves h q ∙ ap (λ (m : Triple). value_at (quad_ops d) m q) t.taken_out ∙ times_value d t.divisor l q,
+      )
 
     -- where the value isn't positive, the side before h turns to the left into the side behind its twin
     pub second_turn : (q : Triple) → IsHalfPlanePoint d q → ¬ (IsPositive d (hinge_value d halves h q)) → TurnsInto d halves (previous_of h) (next_of_twin halves h)

@@ -8,3 +8,8 @@ pub mod Diagonals
 pub mod Halves
 pub mod Contents
 pub mod Points
+pub mod Relations
+pub mod Cofactors
+pub mod Chords
+pub mod WallPoints
+pub mod CallerLemmas

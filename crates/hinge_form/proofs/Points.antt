@@ -12,7 +12,8 @@ use Rattle.quad_field.specs.declared.quad.Quad.{Quad}
 use Rattle.quad_field.specs.Quads.{quad, quad_ops, IsPositive}
 use Rattle.surface_text.specs.declared.file.Point.{Point}
 use Rattle.surface_text.specs.Limits.{IsBasePoint, IsBounded}
-use Rattle.hinge_form.specs.Hinges.{Triple, IsHalfPlanePoint, place_at}
+use Rattle.hinge_form.specs.Triples.{Triple}
+use Rattle.hinge_form.specs.Hinges.{IsHalfPlanePoint, place_at}
 
 -- a whole number above 0 is a positive K-integer
 whole_positive : (d : ℕ) (n : ℤ) → pos 0 <ℤ n → IsPositive d (quad n (pos 0))

@@ -2,7 +2,8 @@
 use Rattle.std.proofs.Common.{◌≡◌, [], ◌∷◌}
 use Rattle.std.specs.Prelude.{pos}
 use Rattle.rings.specs.Ring.{Ops, IsRing, Expr, var, expr}
-use Rattle.rings.specs.Forms.{det, length_by, three_row_determinant, value_at}
+use Rattle.rings.specs.Forms.{det, length_by, three_row_determinant, hinge_triple, discriminant}
+use Rattle.rings.specs.Lines.{multiple}
 use Rattle.rings.proofs.Solver.{identity}
 use Rattle.plane.specs.Vectors.{Vector, vector_sum, opposite_vector}
 
@@ -64,17 +65,6 @@ module _ {R : Type 0} (O : Ops R) (L : IsRing O) where
       (expr.add (expr.add (expr.mul (det expr a' p') (length_by expr q' d')) (expr.mul (det expr d' a') (length_by expr q' p'))) (expr.mul (expr.neg (det expr d' p')) (length_by expr q' a')))
       (three_row_determinant expr q' a' p' d') tt
 
-  -- a form of zeros has the value zero
-  pub zero_value : (q : R × R × R) → value_at O (O.int (pos 0), O.int (pos 0), O.int (pos 0)) q ≡ O.int (pos 0)
-  zero_value q = identity O L (q.0 ∷ q.1 ∷ q.2 ∷ []) (value_at expr (expr.int (pos 0), expr.int (pos 0), expr.int (pos 0)) (var 0, var 1, var 2)) (expr.int (pos 0)) tt
-
-  -- a multiple of a form has the same multiple of its value
-  pub multiple_value : (k : R) (l q : R × R × R) → value_at O (O.mul k l.0, O.mul k l.1, O.mul k l.2) q ≡ O.mul k (value_at O l q)
-  multiple_value k l q =
-      identity O L (k ∷ l.0 ∷ l.1 ∷ l.2 ∷ q.0 ∷ q.1 ∷ q.2 ∷ [])
-      (value_at expr (expr.mul (var 0) (var 1), expr.mul (var 0) (var 2), expr.mul (var 0) (var 3)) (var 4, var 5, var 6))
-      (expr.mul (var 0) (value_at expr (var 1, var 2, var 3) (var 4, var 5, var 6))) tt
-
   -- det(u, -v) = det(v, u)
   pub determinant_opposite_second : (u v : Vector R) → det O u (opposite_vector O v) ≡ det O v u
   determinant_opposite_second u v = identity O L (u.0 ∷ u.1 ∷ v.0 ∷ v.1 ∷ []) (det expr a' (opposite_vector expr p')) (det expr p' a') tt
@@ -82,3 +72,15 @@ module _ {R : Type 0} (O : Ops R) (L : IsRing O) where
   -- det(-u, v) = det(v, u)
   pub determinant_opposite_first : (u v : Vector R) → det O (opposite_vector O u) v ≡ det O v u
   determinant_opposite_first u v = identity O L (u.0 ∷ u.1 ∷ v.0 ∷ v.1 ∷ []) (det expr (opposite_vector expr a') p') (det expr p' a') tt
+
+  -- the chord test of the hinge a, -p, d is four times the product of the four turns of its quadrilateral
+  pub chord_of_turns : (a p d : Vector R) → discriminant O (hinge_triple O a (opposite_vector O p) d)
+      ≡ O.mul (O.int (pos 4)) (O.mul (O.mul (det O a (opposite_vector O p)) (det O d a)) (O.mul (det O p d) (det O (third_side O (opposite_vector O a) d) (third_side O p a))))
+  chord_of_turns a p d =
+      identity O L (a.0 ∷ a.1 ∷ p.0 ∷ p.1 ∷ d.0 ∷ d.1 ∷ []) (discriminant expr (hinge_triple expr a' (opposite_vector expr p') d'))
+      (expr.mul (expr.int (pos 4)) (expr.mul (expr.mul (det expr a' (opposite_vector expr p')) (det expr d' a'))
+      (expr.mul (det expr p' d') (det expr (third_side expr (opposite_vector expr a') d') (third_side expr p' a'))))) tt
+
+  pub discriminant_of_multiple : (g : R) (l : R × R × R) → discriminant O (multiple O g l) ≡ O.mul (discriminant O l) (O.mul g g)
+  discriminant_of_multiple g l =
+      identity O L (g ∷ l.0 ∷ l.1 ∷ l.2 ∷ []) (discriminant expr (multiple expr (var 0) (var 1, var 2, var 3))) (expr.mul (discriminant expr (var 1, var 2, var 3)) (expr.mul (var 0) (var 0))) tt

@@ -1,13 +1,14 @@
 -- A tree whose leaves are trees that fit: it fits where it does with their values as leaves.
 use Rattle.std.proofs.Common.{◌≡◌, ℕ, sym, subst, ap}
 use Rattle.std.specs.Prelude.{◌↔◌, pos}
-use Rattle.rings.specs.Forms.{hinge_triple}
+use Rattle.rings.specs.Forms.{hinge_triple, difference_of_products, weighted_triple}
 use Rattle.quad_field.specs.declared.quad.Quad.{Quad}
 use Rattle.quad_field.specs.Quads.{quad}
 use Rattle.quad_field.specs.Width.{Term, number, product, term_ops, value_of, AllFit, product_steps, StepsFit}
 use Rattle.plane.specs.declared.vec2.Vec2.{Vec2}
 use Rattle.plane.specs.Vectors.{Vector, vector, vector_term, VectorFits}
-use Rattle.hinge_form.specs.Steps.{difference_of_products, weighted_triple}
+use Rattle.hinge_form.specs.Triples.{AllThreeFit}
+use Rattle.hinge_form.specs.Hinges.{vector_leaves}
 
 -- the number 2
 abbrev pub two : Quad
@@ -40,10 +41,6 @@ module _ (d : ℕ) (s t r : Term) (u v w : Quad) (first : StepsFit d s) (second 
 abbrev pub values_of : ℕ → Vector Term → Vector Quad
 values_of d u = (value_of d u.0, value_of d u.1)
 
--- no step of a triple of trees lies outside i128
-abbrev pub AllThreeFit : ℕ → Term × Term × Term → Type 0
-AllThreeFit d l = StepsFit d l.0 × StepsFit d l.1 × StepsFit d l.2
-
 -- twice what fits in one form fits in the other
 double_moved : (d : ℕ) (s t : Term) → value_of d s ≡ value_of d t → (StepsFit d s ↔ StepsFit d t) → StepsFit d (product (number two) s) ↔ StepsFit d (product (number two) t)
 double_moved d s t e same = (
@@ -71,13 +68,9 @@ weighted_fits d P Q R p q r a c e first second third is_p is_q is_r =
     let beta = double_moved d numbers trees (same p.s q.s r.s (ap fst is_p) (ap fst is_q) (ap fst is_r)) half in
     ((λ h. (alpha.0 h.0, beta.0 h.1, gamma.0 h.2)), (λ h. (alpha.1 h.0, beta.1 h.1, gamma.1 h.2)))
 
--- a vector's coordinates as trees
-abbrev pub leaves : Vector Quad → Vector Term
-leaves u = (number u.0, number u.1)
-
 -- the triple of three vectors
 abbrev pub FitsAt : ℕ → Vector Quad → Vector Quad → Vector Quad → Type 0
-FitsAt d a c e = AllThreeFit d (hinge_triple term_ops (leaves a) (leaves c) (leaves e))
+FitsAt d a c e = AllThreeFit d (hinge_triple term_ops (vector_leaves a) (vector_leaves c) (vector_leaves e))
 
 -- the same where the field and the vectors have other names
 pub fits_named : (A : Type 0) (d f : ℕ) (a b c x y z : Vector Quad) → d ≡ f → a ≡ x → b ≡ y → c ≡ z → (A ↔ FitsAt d a b c) → (A ↔ FitsAt f x y z)

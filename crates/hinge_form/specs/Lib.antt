@@ -1,2 +1,4 @@
+pub mod Triples
 pub mod Hinges
-pub mod Steps
+pub mod Lines
+pub mod Walls

@@ -7,7 +7,8 @@ ghost use Rattle.plane.specs.Vectors.{vector};
 ghost use Rattle.tri_core.specs.HalfEdges.{previous_of};
 ghost use Rattle.tri_core.specs.Triangulation.{IsTriangulation};
 ghost use Rattle.tri_core.specs.Flips.{IsEdge};
-ghost use Rattle.hinge_form.specs.Hinges.{of_form, hinge_a, hinge_c, hinge_d, full_triple, IsHingeTriple, TripleFits};
+ghost use Rattle.hinge_form.specs.Triples.{of_form};
+ghost use Rattle.hinge_form.specs.Hinges.{hinge_a, hinge_c, hinge_d, full_triple, IsHingeTriple, TripleFits};
 
 use super::Form;
 use super::reduced::reduced;
@@ -16,9 +17,9 @@ use plane::Vec2;
 use quad_field::{Field, Formula, TooWide, Wide};
 use tri_core::Tri;
 
-/// Does nothing: its contract says what is known of every field and every triangulation.
-fn known_facts(f: &Field, tri: &Tri)
-    ensures field { IsFieldNumber f.now }
+/// Does nothing: whoever holds a field and a triangulation knows that they are one.
+fn is_valid(f: &Field, tri: &Tri)
+    ensures number { IsFieldNumber f.now }
     ensures valid { IsTriangulation tri.now.field tri.now.halves }
 {
     f.number();
@@ -81,7 +82,7 @@ pub fn hinge(f: &Field, tri: &Tri, edge: u32) -> Result<Form, Wide>
     ensures fits { IsOk result ↔ TripleFits tri.now.field tri.now.halves edge }
     ensures wide { IfErr result (λ wide. wide.formula ≡ F2) }
 {
-    known_facts(f, tri);
+    is_valid(f, tri);
     match full(f, tri, edge) {
         Ok(form) => Ok(reduced(&form)),
         Err(TooWide) => Err(Wide {

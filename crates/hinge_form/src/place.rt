@@ -4,7 +4,8 @@ ghost use Rattle.std.specs.Prelude.{◌≡◌, ℕ, pos, ◌*ℤ◌};
 ghost use Rattle.quad_field.specs.FieldNumber.{IsFieldNumber};
 ghost use Rattle.quad_field.specs.Quads.{quad};
 ghost use Rattle.surface_text.specs.Limits.{IsBasePoint};
-ghost use Rattle.hinge_form.specs.Hinges.{of_place, place_at, IsHalfPlanePoint};
+ghost use Rattle.hinge_form.specs.Triples.{of_place};
+ghost use Rattle.hinge_form.specs.Hinges.{place_at, IsHalfPlanePoint};
 
 use quad_field::Quad;
 use surface_text::Point;

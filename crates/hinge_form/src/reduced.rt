@@ -4,9 +4,9 @@ ghost use Rattle.std.specs.Prelude.{◌≡◌, ◌<◌, ℕ, pos, ◌*ℤ◌, un
 ghost use Prim.Native.Nat.{◌∣◌};
 ghost use Rattle.quad_field.specs.Content.{DividesParts};
 ghost use Rattle.quad_field.specs.Quads.{scaled};
-ghost use Rattle.hinge_form.specs.Hinges.{of_form, times, HasNoDivisor};
+ghost use Rattle.hinge_form.specs.Triples.{of_form, of_place, zeros, IsReduced};
 
-use super::Form;
+use super::{Form, Place3};
 use quad_field::{Quad, content};
 
 /// n / g, where g divides n.
@@ -36,16 +36,32 @@ fn quotient_of(x: Quad, g: u128) -> Quad
     }
 }
 
-/// A triple that isn't zero, with the greatest common divisor of its six components taken out.
+/// A form that isn't zero, with the greatest common divisor of its six components taken out.
 pub fn reduced(form: &Form) -> Form
-    requires { ¬ (of_form form.now ≡ times 0 (of_form form.now)) }
-    ensures taken_out { (g : ℕ) × (of_form form.now ≡ times g (of_form result)) }
-    ensures reduced { HasNoDivisor (of_form result) }
+    requires { ¬ (of_form form.now ≡ zeros) }
+    ensures { IsReduced (of_form form.now) (of_form result) }
 {
     let g = content(&[form.alpha, form.beta, form.gamma]);
     Form {
         alpha: quotient_of(form.alpha, g),
         beta: quotient_of(form.beta, g),
         gamma: quotient_of(form.gamma, g),
+    }
+}
+
+/// A place that isn't zero, with the greatest common divisor of its six components taken out.
+pub fn reduced_place(at: &Place3) -> Place3
+    requires { ¬ (of_place at.now ≡ zeros) }
+    ensures { IsReduced (of_place at.now) (of_place result) }
+{
+    let form = reduced(&Form {
+        alpha: at.w,
+        beta: at.x,
+        gamma: at.y,
+    });
+    Place3 {
+        w: form.alpha,
+        x: form.beta,
+        y: form.gamma,
     }
 }

@@ -1,12 +1,11 @@
 //! The three coefficients of a hinge's value, before a common divisor is taken out.
 
 ghost use Rattle.std.specs.Prelude.{◌≡◌, ◌↔◌, IsOk, IfOk};
-ghost use Rattle.rings.specs.Forms.{hinge_triple};
+ghost use Rattle.rings.specs.Forms.{hinge_triple, turn_times as turned_by, difference_of_products as products_of, weighted_triple as weighted};
 ghost use Rattle.quad_field.specs.Quads.{quad_ops};
 ghost use Rattle.quad_field.specs.Width.{term_ops, number, StepsFit};
 ghost use Rattle.plane.specs.Vectors.{vector, vector_term, VectorFits};
-ghost use Rattle.hinge_form.specs.Hinges.{of_form};
-ghost use Rattle.hinge_form.specs.Steps.{turn_times as turned_by, difference_of_products as products_of, weighted_triple as weighted};
+ghost use Rattle.hinge_form.specs.Triples.{of_form, AllThreeFit};
 
 use super::Form;
 use plane::{Vec2, det};
@@ -73,8 +72,8 @@ fn difference_of_products(
 fn weighted_triple(f: &Field, x: &Weights, a: &Vec2, c: &Vec2, d: &Vec2) -> Result<Form, TooWide>
     ensures exact { IfOk result (λ form. of_form form
         ≡ weighted (quad_ops f.now) (vector x.now.d) (vector x.now.a) (vector x.now.c) (vector a.now) (vector c.now) (vector d.now)) }
-    ensures fits { IsOk result ↔ (let l = weighted term_ops (vector_term x.now.d) (vector_term x.now.a) (vector_term x.now.c)
-        (vector_term a.now) (vector_term c.now) (vector_term d.now) in StepsFit f.now l.0 × StepsFit f.now l.1 × StepsFit f.now l.2) }
+    ensures fits { IsOk result ↔ AllThreeFit f.now (weighted term_ops (vector_term x.now.d) (vector_term x.now.a) (vector_term x.now.c)
+        (vector_term a.now) (vector_term c.now) (vector_term d.now)) }
 {
     let alpha = difference_of_products(f, x.d.s, d.s, x.a.s, a.s, x.c.s, c.s)?;
     let half = difference_of_products(f, x.d.s, d.t, x.a.s, a.t, x.c.s, c.t)?;
@@ -86,8 +85,7 @@ fn weighted_triple(f: &Field, x: &Weights, a: &Vec2, c: &Vec2, d: &Vec2) -> Resu
 /// The triple of the hinge a, c, d. Too wide exactly where a step of it is.
 pub fn triple_of(f: &Field, a: &Vec2, c: &Vec2, d: &Vec2) -> Result<Form, TooWide>
     ensures exact { IfOk result (λ form. of_form form ≡ hinge_triple (quad_ops f.now) (vector a.now) (vector c.now) (vector d.now)) }
-    ensures fits { IsOk result ↔ (let l = hinge_triple term_ops (vector_term a.now) (vector_term c.now) (vector_term d.now) in
-        StepsFit f.now l.0 × StepsFit f.now l.1 × StepsFit f.now l.2) }
+    ensures fits { IsOk result ↔ AllThreeFit f.now (hinge_triple term_ops (vector_term a.now) (vector_term c.now) (vector_term d.now)) }
 {
     let weights = weigh(f, a, c, d)?;
     weighted_triple(f, &weights, a, c, d)

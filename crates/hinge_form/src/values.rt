@@ -7,8 +7,8 @@ ghost use Rattle.hinge_form.specs.Hinges.{value_of, ValueFits};
 use super::{Form, Place3};
 use quad_field::{Field, Formula, Quad, TooWide, Wide};
 
-/// The same, with a refusal that names no formula.
-fn sum_of_products(f: &Field, form: &Form, at: &Place3) -> Result<Quad, TooWide>
+/// The sum α·w + β·x + γ·y, with a refusal that names no formula: the same steps serve a value and the direction of a multiple.
+pub fn sum_of_products(f: &Field, form: &Form, at: &Place3) -> Result<Quad, TooWide>
     ensures exact { IfOk result (λ v. v ≡ value_of f.now form.now at.now) }
     ensures fits { IsOk result ↔ ValueFits f.now form.now at.now }
 {

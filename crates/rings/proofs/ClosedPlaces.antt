@@ -7,11 +7,11 @@ use Rattle.rings.specs.Order.{IsOrdered, IsNotNegative}
 use Rattle.rings.specs.Forms.{inner_value, value_at}
 use Rattle.rings.proofs.Solver.{identity}
 use Rattle.rings.proofs.Ordered.{factor, factor_zero, sum_more, sum_not_negative, product_not_negative, square, square_zero}
-use Rattle.rings.proofs.Signs.{never_below, never_above, not_negative_or, zero_between, natural, factor_not_negative}
-use Rattle.rings.specs.Lines.{Triple, zero_triple, multiple, IsInside}
+use Rattle.rings.proofs.Signs.{never_positive, never_below, never_above, not_negative_or, zero_between, natural, factor_not_negative, product_zero_second}
+use Rattle.rings.specs.Lines.{Triple, zero_triple, opposite_triple, multiple, IsInside, HasPositiveFactor}
 use Rattle.rings.specs.Lines as lines
 use Rattle.rings.proofs.Lines.{mixed_value, mixed_square, inner_moved, value_moved}
-use Rattle.rings.proofs.Multiples.{value_at_multiple, inner_of_multiple}
+use Rattle.rings.proofs.Multiples.{value_at_factor, inner_of_factor}
 use Rattle.rings.proofs.LargeMultiples.{IsArchimedean, moved}
 open expr use {add as ◌+'◌, sub as ◌-'◌, mul as ◌*'◌, neg as neg', int as int'}
 
@@ -97,50 +97,56 @@ module _ {R : Type 0} (O : Ops R) (L : IsRing O) {P : R → Type 0} (Q : IsOrder
           (subst P (identity O L (num_of (pos m) ∷ value_at O k q ∷ value_at O k r ∷ []) (var 0 *' neg' (var 1) +' neg' (var 2)) (neg' (var 0 *' var 1 +' var 2)) tt
           ∙ ap minus (sym (value_moved O L k q r (num_of (pos m))))) (e.1 m (omega arith)))
 
-  -- ---- two places with positive multiples that are equal
-  module _ (g h : R) (pg : P g) (ph : P h) (x y full : Triple R) (of_x : full ≡ multiple O g x) (of_y : full ≡ multiple O h y) where
-    pub value_along : (k : Triple R) → NotNegative (value_at O k y) → NotNegative (value_at O k x)
-    value_along k n =
-        factor_not_negative O L Q (value_at O k x) g
-        (subst NotNegative (sym (ap (λ (z : Triple R). value_at O k z) of_y ∙ value_at_multiple O L h k y) ∙ ap (λ (z : Triple R). value_at O k z) of_x ∙ value_at_multiple O L g k x ∙ L.mul_comm _ _)
-        (product_not_negative O L Q h (value_at O k y) (inr ph) n)) pg
-
-    pub inner_along : NotNegative (inner_value O y) → NotNegative (inner_value O x)
-    inner_along n =
-        factor_not_negative O L Q (inner_value O x) (g ⊗ g)
-        (subst NotNegative (sym (ap (inner_value O) of_y ∙ inner_of_multiple O L h y) ∙ ap (inner_value O) of_x ∙ inner_of_multiple O L g x ∙ L.mul_comm _ _)
-        (product_not_negative O L Q (h ⊗ h) (inner_value O y) (inr (Q.product _ _ ph ph)) n)) (Q.product _ _ pg pg)
-
-  -- a forward place and a closed one aren't opposite
-  pub not_opposite : (g h : R) → P g → P h → (x y full : Triple R) → full ≡ multiple O g x → (minus full.0, minus full.1, minus full.2) ≡ multiple O h y → IsForward x → IsClosed y → ⊥
-  not_opposite g h pg ph x y full of_x of_y forward closed =
-      not_backward x forward (part x.0 y.0 full.0 (ap (λ (z : Triple R). z.0) of_x) (ap (λ (z : Triple R). z.0) of_y) closed.first)
-      (part x.2 y.2 full.2 (ap (λ (z : Triple R). z.2) of_x) (ap (λ (z : Triple R). z.2) of_y) closed.third)
-    where
-      part : (a b c : R) → c ≡ g ⊗ a → minus c ≡ h ⊗ b → NotNegative b → NotNegative (minus a)
-      part a b c e f n =
-          factor_not_negative O L Q (minus a) g
-          (subst NotNegative (sym f ∙ ap minus e ∙ identity O L (g ∷ a ∷ []) (neg' (var 0 *' var 1)) (neg' (var 1) *' var 0) tt) (product_not_negative O L Q h b (inr ph) n)) pg
-
-  -- parts of such places
-  pub part_along : (g h a b : R) → P g → P h → g ⊗ a ≡ h ⊗ b → NotNegative b → NotNegative a
-  part_along g h a b pg ph e n = factor_not_negative O L Q a g (subst NotNegative (sym e ∙ L.mul_comm _ _) (product_not_negative O L Q h b (inr ph) n)) pg
+  -- a product of positive factors on both sides: what is not negative, zero or positive on one side is so on the other
+  part_not_negative : (g h a b : R) → P g → P h → g ⊗ a ≡ h ⊗ b → NotNegative b → NotNegative a
+  part_not_negative g h a b pg ph e n = factor_not_negative O L Q a g (subst NotNegative (sym e ∙ L.mul_comm _ _) (product_not_negative O L Q h b (inr ph) n)) pg
 
   part_zero : (g h a b : R) → P g → P h → g ⊗ a ≡ h ⊗ b → a ≡ Z → b ≡ Z
-  part_zero g h a b pg ph e z =
-      factor_zero O L Q b h (L.mul_comm b h ∙ sym e ∙ ap (λ x. g ⊗ x) z ∙ identity O L (g ∷ []) (var 0 *' int' (pos 0)) (int' (pos 0)) tt) ph
+  part_zero g h a b pg ph e z = factor_zero O L Q b h (L.mul_comm b h ∙ sym e ∙ product_zero_second O L Q g a z) ph
 
   part_positive : (g h a b : R) → P g → P h → g ⊗ a ≡ h ⊗ b → P a → P b
   part_positive g h a b pg ph e p = factor O L Q b h (subst P (e ∙ L.mul_comm h b) (Q.product _ _ pg p)) ph
 
-  pub forward_along : (g h : R) (x y : Triple R) → P g → P h → multiple O g x ≡ multiple O h y → IsForward x → IsForward y
-  forward_along g h x y pg ph e (inl p) = inl (part_positive g h x.0 y.0 pg ph (ap (λ (z : Triple R). z.0) e) p)
-  forward_along g h x y pg ph e (inr f) = inr (part_zero g h x.0 y.0 pg ph (ap (λ (z : Triple R). z.0) e) f.0, part_positive g h x.2 y.2 pg ph (ap (λ (z : Triple R). z.2) e) f.1)
+  -- ---- two places that are one triple without a positive factor each
+  module _ (full x y : Triple R) (f : HasPositiveFactor O P full x) (g : HasPositiveFactor O P full y) where
+    first_along : f.factor ⊗ x.0 ≡ g.factor ⊗ y.0
+    first_along = ap (λ (z : Triple R). z.0) (sym f.out ∙ g.out)
 
-  -- a place with w = y = 0 has no closed multiple, but the zero place
-  pub no_closed : (g h : R) (x y : Triple R) → P g → P h → multiple O g x ≡ multiple O h y → x.0 ≡ Z → x.2 ≡ Z → ¬ (y ≡ zero_triple O) → IsClosed y → ⊥
-  no_closed g h x y pg ph e f t some closed = go (closed_forward y closed some)
+    third_along : f.factor ⊗ x.2 ≡ g.factor ⊗ y.2
+    third_along = ap (λ (z : Triple R). z.2) (sym f.out ∙ g.out)
+
+    pub value_along : (k : Triple R) → NotNegative (value_at O k y) → NotNegative (value_at O k x)
+    value_along k n =
+        part_not_negative f.factor g.factor (value_at O k x) (value_at O k y) f.positive g.positive
+        (sym (value_at_factor O L Q full x f k) ∙ value_at_factor O L Q full y g k) n
+
+    pub closed_along : IsClosed y → IsClosed x
+    closed_along c = record {
+      first = part_not_negative f.factor g.factor x.0 y.0 f.positive g.positive first_along c.first;
+      third = part_not_negative f.factor g.factor x.2 y.2 f.positive g.positive third_along c.third;
+      inner = part_not_negative (f.factor ⊗ f.factor) (g.factor ⊗ g.factor) (inner_value O x) (inner_value O y) (Q.product _ _ f.positive f.positive) (Q.product _ _ g.positive g.positive)
+          (sym (inner_of_factor O L Q full x f) ∙ inner_of_factor O L Q full y g) c.inner;
+    }
+
+    pub forward_along : IsForward x → IsForward y
+    forward_along (inl p) = inl (part_positive f.factor g.factor x.0 y.0 f.positive g.positive first_along p)
+    forward_along (inr h) = inr (part_zero f.factor g.factor x.0 y.0 f.positive g.positive first_along h.0, part_positive f.factor g.factor x.2 y.2 f.positive g.positive third_along h.1)
+
+    -- where w and y of the one are zero, the other isn't closed, unless it is zero
+    pub no_closed : x.0 ≡ Z → x.2 ≡ Z → ¬ (y ≡ zero_triple O) → IsClosed y → ⊥
+    no_closed e t some closed = go (closed_forward y closed some)
+      where
+        go : IsForward y → ⊥
+        go (inl p) = never_positive O L Q y.0 (part_zero f.factor g.factor x.0 y.0 f.positive g.positive first_along e) p
+        go (inr p) = never_positive O L Q y.2 (part_zero f.factor g.factor x.2 y.2 f.positive g.positive third_along t) p.1
+
+  -- a forward place and a closed one aren't opposite
+  pub not_opposite : (full x y : Triple R) → HasPositiveFactor O P full x → HasPositiveFactor O P (opposite_triple O full) y → IsForward x → IsClosed y → ⊥
+  not_opposite full x y f g forward closed =
+      not_backward x forward (part x.0 y.0 full.0 (ap (λ (z : Triple R). z.0) f.out) (ap (λ (z : Triple R). z.0) g.out) closed.first)
+      (part x.2 y.2 full.2 (ap (λ (z : Triple R). z.2) f.out) (ap (λ (z : Triple R). z.2) g.out) closed.third)
     where
-      go : IsForward y → ⊥
-      go (inl p) = Q.zero_is_not (subst P (part_zero g h x.0 y.0 pg ph (ap (λ (z : Triple R). z.0) e) f) p)
-      go (inr p) = Q.zero_is_not (subst P (part_zero g h x.2 y.2 pg ph (ap (λ (z : Triple R). z.2) e) t) p.1)
+      part : (a b c : R) → c ≡ f.factor ⊗ a → minus c ≡ g.factor ⊗ b → NotNegative b → NotNegative (minus a)
+      part a b c e h n =
+          part_not_negative f.factor g.factor (minus a) b f.positive g.positive
+          (identity O L (f.factor ∷ a ∷ []) (var 0 *' neg' (var 1)) (neg' (var 0 *' var 1)) tt ∙ ap minus (sym e) ∙ h) n

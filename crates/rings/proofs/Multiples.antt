@@ -5,9 +5,9 @@ use Rattle.rings.specs.Ring.{Ops, IsRing, var, expr}
 use Rattle.rings.specs.Order.{IsOrdered, Sign, is_zero, is_positive, is_negative, IsNotNegative}
 use Rattle.rings.specs.Forms.{inner_value, value_at}
 use Rattle.rings.proofs.Solver.{identity}
-use Rattle.rings.proofs.Ordered.{factor, factor_zero, square, square_zero, sum_zero, sum_not_negative, squares_zero}
-use Rattle.rings.proofs.Signs.{never_below}
-use Rattle.rings.specs.Lines.{Triple, crossing_point, zero_triple, multiple, opposite_triple, IsOn, IsInside, IsPositiveMultiple}
+use Rattle.rings.proofs.Ordered.{factor, factor_zero, square, square_zero, sum_zero, sum_not_negative, squares_zero, not_both_signs}
+use Rattle.rings.proofs.Signs.{never_below, product_zero_second}
+use Rattle.rings.specs.Lines.{Triple, crossing_point, zero_triple, multiple, opposite_triple, IsOn, IsInside, IsPositiveMultiple, HasPositiveFactor}
 use Rattle.rings.proofs.Lines.{meet_first, meet_second, meet_third}
 open expr use {add as ◌+'◌, sub as ◌-'◌, mul as ◌*'◌, neg as neg', int as int'}
 
@@ -22,6 +22,25 @@ module _ {R : Type 0} (O : Ops R) (L : IsRing O) where
   infixl 70 ◌⊗◌
   pub triples_equal : (l k : Triple R) → l.0 ≡ k.0 → l.1 ≡ k.1 → l.2 ≡ k.2 → l ≡ k
   triples_equal l k e f g i = (e i, f i, g i)
+
+  -- a form is known by its values
+  pub form_by_values : (l k : Triple R) → ((q : Triple R) → value_at O l q ≡ value_at O k q) → l ≡ k
+  form_by_values l k same = triples_equal l k (sym (first l) ∙ same (one, zero, zero) ∙ first k) (sym (second l) ∙ same (zero, one, zero) ∙ second k) (sym (third l) ∙ same (zero, zero, one) ∙ third k)
+    where
+      one : R
+      one = num_of (pos 1)
+
+      zero : R
+      zero = num_of (pos 0)
+
+      first : (l : Triple R) → value_at O l (num_of (pos 1), num_of (pos 0), num_of (pos 0)) ≡ l.0
+      first l = identity O L (l.0 ∷ l.1 ∷ l.2 ∷ []) (value_at expr (var 0, var 1, var 2) (int' (pos 1), int' (pos 0), int' (pos 0))) (var 0) tt
+
+      second : (l : Triple R) → value_at O l (num_of (pos 0), num_of (pos 1), num_of (pos 0)) ≡ l.1
+      second l = identity O L (l.0 ∷ l.1 ∷ l.2 ∷ []) (value_at expr (var 0, var 1, var 2) (int' (pos 0), int' (pos 1), int' (pos 0))) (var 1) tt
+
+      third : (l : Triple R) → value_at O l (num_of (pos 0), num_of (pos 0), num_of (pos 1)) ≡ l.2
+      third l = identity O L (l.0 ∷ l.1 ∷ l.2 ∷ []) (value_at expr (var 0, var 1, var 2) (int' (pos 0), int' (pos 0), int' (pos 1))) (var 2) tt
 
   -- the value of a multiple, and at a multiple
   pub multiple_value : (m : R) (k q : Triple R) → value_at O (multiple O m k) q ≡ m ⊗ value_at O k q
@@ -55,6 +74,12 @@ module _ {R : Type 0} (O : Ops R) (L : IsRing O) where
   pub value_at_opposite : (k q : Triple R) → value_at O k (opposite_triple O q) ≡ minus (value_at O k q)
   value_at_opposite k q =
       identity O L (k.0 ∷ k.1 ∷ k.2 ∷ q.0 ∷ q.1 ∷ q.2 ∷ []) (value_at expr (var 0, var 1, var 2) (opposite_triple expr (var 3, var 4, var 5))) (neg' (value_at expr (var 0, var 1, var 2) (var 3, var 4, var 5))) tt
+
+  pub opposite_twice : (l : Triple R) → opposite_triple O (opposite_triple O l) ≡ l
+  opposite_twice l = triples_equal _ _ (one l.0) (one l.1) (one l.2)
+    where
+      one : (a : R) → minus (minus a) ≡ a
+      one a = identity O L (a ∷ []) (neg' (neg' (var 0))) (var 0) tt
 
   pub inner_of_opposite : (q : Triple R) → inner_value O (opposite_triple O q) ≡ inner_value O q
   inner_of_opposite q = identity O L (q.0 ∷ q.1 ∷ q.2 ∷ []) (inner_value expr (opposite_triple expr (var 0, var 1, var 2))) (inner_value expr (var 0, var 1, var 2)) tt
@@ -165,25 +190,45 @@ module _ {R : Type 0} (O : Ops R) (L : IsRing O) {P : R → Type 0} (Q : IsOrder
         ∙ ap (multiple O g.1) h.4 ∙ multiple_twice O L g.1 h.1 l,
   )
 
-  -- ---- a place and the same with a positive factor taken out
-  module _ (g : R) (positive : P g) (x y : Triple R) (out : x ≡ multiple O g y) where
-    pub value_out : (k : Triple R) → P (value_at O k x) → P (value_at O k y)
-    value_out k p = factor O L Q (value_at O k y) g (subst P (ap (λ (z : Triple R). value_at O k z) out ∙ value_at_multiple O L g k y ∙ L.mul_comm _ _) p) positive
+  -- a form is a positive multiple of itself, where some value is positive
+  pub multiple_itself : (some : R) → P some → (l : Triple R) → IsPositiveMultiple O P l l
+  multiple_itself some p l = (some, some, p, p, λ i. multiple O some l)
 
-    pub on_out : (k : Triple R) → IsOn O k x → IsOn O k y
-    on_out k e = factor_zero O L Q (value_at O k y) g (L.mul_comm _ _ ∙ sym (value_at_multiple O L g k y) ∙ sym (ap (λ (z : Triple R). value_at O k z) out) ∙ e) positive
+  -- a negative multiple isn't a positive one
+  pub opposite_not_multiple : (l k : Triple R) → ¬ (l ≡ zero_triple O) → IsPositiveMultiple O P l (opposite_triple O k) → ¬ (IsPositiveMultiple O P l k)
+  opposite_not_multiple l k some h g =
+      not_both_signs O L Q (value_at O l k) (multiple_direction l k some g) (subst P (value_at_opposite O L l k) (multiple_direction l (opposite_triple O k) some h))
 
-    pub inside_out : IsInside O P x → IsInside O P y
-    inside_out h = (
-      factor O L Q y.0 g (subst P (ap (λ (z : Triple R). z.0) out ∙ L.mul_comm _ _) h.0) positive,
-      factor O L Q (inner_value O y) (g ⊗ g) (subst P (ap (inner_value O) out ∙ inner_of_multiple O L g y ∙ L.mul_comm _ _) h.1) (Q.product _ _ positive positive),
-    )
+  -- ---- a triple and the same without a positive factor
+  module _ (full x : Triple R) (f : HasPositiveFactor O P full x) where
+    pub factor_multiple : IsPositiveMultiple O P x full
+    factor_multiple = (f.factor, f.factor ⊗ f.factor, f.positive, Q.product _ _ f.positive f.positive, ap (multiple O f.factor) f.out ∙ multiple_twice O L f.factor f.factor x)
 
-    pub inner_in : P (inner_value O y) → P (inner_value O x)
-    inner_in h = subst P (sym (ap (inner_value O) out ∙ inner_of_multiple O L g y)) (Q.product _ _ (Q.product _ _ positive positive) h)
+    pub some_out : ¬ (full ≡ zero_triple O) → ¬ (x ≡ zero_triple O)
+    some_out some z = some (f.out ∙ ap (multiple O f.factor) z ∙ (let none = product_zero_second O L Q f.factor Z (λ i. Z) in λ i. (none i, none i, none i)))
 
-    pub inner_out : P (inner_value O x) → P (inner_value O y)
-    inner_out h = factor O L Q (inner_value O y) (g ⊗ g) (subst P (ap (inner_value O) out ∙ inner_of_multiple O L g y ∙ L.mul_comm _ _) h) (Q.product _ _ positive positive)
+    -- as forms
+    pub value_of_factor : (q : Triple R) → value_at O full q ≡ f.factor ⊗ value_at O x q
+    value_of_factor q = ap (λ (l : Triple R). value_at O l q) f.out ∙ multiple_value O L f.factor x q
 
-    pub first_in : P y.0 → P x.0
-    first_in h = subst P (sym (ap (λ (z : Triple R). z.0) out)) (Q.product _ _ positive h)
+    pub form_out : (q : Triple R) → P (value_at O full q) → P (value_at O x q)
+    form_out q p = factor O L Q (value_at O x q) f.factor (subst P (value_of_factor q ∙ L.mul_comm _ _) p) f.positive
+
+    pub form_in : (q : Triple R) → P (value_at O x q) → P (value_at O full q)
+    form_in q p = subst P (sym (value_of_factor q)) (Q.product _ _ f.positive p)
+
+    -- as places
+    pub value_at_factor : (k : Triple R) → value_at O k full ≡ f.factor ⊗ value_at O k x
+    value_at_factor k = ap (λ (q : Triple R). value_at O k q) f.out ∙ value_at_multiple O L f.factor k x
+
+    pub inner_of_factor : inner_value O full ≡ (f.factor ⊗ f.factor) ⊗ inner_value O x
+    inner_of_factor = ap (inner_value O) f.out ∙ inner_of_multiple O L f.factor x
+
+    pub on_out : (k : Triple R) → IsOn O k full → IsOn O k x
+    on_out k e = factor_zero O L Q (value_at O k x) f.factor (L.mul_comm _ _ ∙ sym (value_at_factor k) ∙ e) f.positive
+
+    pub inner_out : P (inner_value O full) → P (inner_value O x)
+    inner_out h = factor O L Q (inner_value O x) (f.factor ⊗ f.factor) (subst P (inner_of_factor ∙ L.mul_comm _ _) h) (Q.product _ _ f.positive f.positive)
+
+    pub inside_out : IsInside O P full → IsInside O P x
+    inside_out h = (factor O L Q x.0 f.factor (subst P (ap (λ (z : Triple R). z.0) f.out ∙ L.mul_comm _ _) h.0) f.positive, inner_out h.1)

@@ -25,16 +25,26 @@ three_row_determinant O q a c d =
     O.sub (O.sub (O.mul (det O a c) (length_by O q d)) (O.mul (det O d c) (length_by O q a)))
     (O.mul (det O a d) (length_by O q c))
 
--- the triple (α, β, γ) of the hinge a, c, d
+-- det(u, v)·w
+abbrev pub turn_times : {R : Type 0} → Ops R → R × R → R × R → R × R → R × R
+turn_times O u v w = (O.mul (det O u v) w.0, O.mul (det O u v) w.1)
+
+-- (p·u - q·v) - r·w
+abbrev pub difference_of_products : {R : Type 0} → Ops R → R → R → R → R → R → R → R
+difference_of_products O p u q v r w = O.sub (O.sub (O.mul p u) (O.mul q v)) (O.mul r w)
+
+-- (α, β, γ) for vectors p, q, r in the place of A·d, B·a, C·c: α = (p.s·d.s - q.s·a.s) - r.s·c.s, β = 2·((p.s·d.t - q.s·a.t) - r.s·c.t),
+-- γ = (p.t·d.t - q.t·a.t) - r.t·c.t
+abbrev pub weighted_triple : {R : Type 0} → Ops R → R × R → R × R → R × R → R × R → R × R → R × R → R × R × R
+weighted_triple O p q r a c d = (
+  difference_of_products O p.0 d.0 q.0 a.0 r.0 c.0,
+  O.mul (O.int (pos 2)) (difference_of_products O p.0 d.1 q.0 a.1 r.0 c.1),
+  difference_of_products O p.1 d.1 q.1 a.1 r.1 c.1,
+)
+
+-- the triple (α, β, γ) of the hinge a, c, d, with A = det(a, c), B = det(d, c), C = det(a, d)
 abbrev pub hinge_triple : {R : Type 0} → Ops R → R × R → R × R → R × R → R × R × R
-hinge_triple O a c d =
-    let A = det O a c in
-    let B = det O d c in
-    let C = det O a d in (
-      O.sub (O.sub (O.mul (O.mul A d.0) d.0) (O.mul (O.mul B a.0) a.0)) (O.mul (O.mul C c.0) c.0),
-      O.mul (O.int (pos 2)) (O.sub (O.sub (O.mul (O.mul A d.0) d.1) (O.mul (O.mul B a.0) a.1)) (O.mul (O.mul C c.0) c.1)),
-      O.sub (O.sub (O.mul (O.mul A d.1) d.1) (O.mul (O.mul B a.1) a.1)) (O.mul (O.mul C c.1) c.1),
-    )
+hinge_triple O a c d = weighted_triple O (turn_times O a c d) (turn_times O d c a) (turn_times O a d c) a c d
 
 -- β² - 4αγ
 abbrev pub discriminant : {R : Type 0} → Ops R → R × R × R → R

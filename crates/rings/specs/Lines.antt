@@ -24,6 +24,12 @@ multiple O m l = (O.mul m l.0, O.mul m l.1, O.mul m l.2)
 abbrev pub IsPositiveMultiple : {R : Type 0} → Ops R → (R → Type 0) → Triple R → Triple R → Type 0
 IsPositiveMultiple {R} O P l k = (m : R) × (n : R) × P m × P n × (multiple O m k ≡ multiple O n l)
 
+-- full = g·x for some positive g
+pub record HasPositiveFactor {R : Type 0} (O : Ops R) (P : R → Type 0) (full x : Triple R) : Type 0 where
+  pub factor : R
+  pub positive : P factor
+  pub out : full ≡ multiple O factor x
+
 -- the crossing point of two lines: (β1·γ2 - γ1·β2, γ1·α2 - α1·γ2, α1·β2 - β1·α2)
 abbrev pub crossing_point : {R : Type 0} → Ops R → Triple R → Triple R → Triple R
 crossing_point O l k = (

@@ -1,6 +1,6 @@
 use Rattle.std.proofs.Common.{◌∙◌, sym, subst}
 use Rattle.quad_field.specs.FieldNumber.{IsFieldNumber}
-use Rattle.hinge_form.proofs.Points.{place_inside}
+use Rattle.hinge_form.proofs.CallerLemmas.{place_inside}
 use Rattle.delaunay_flip.proofs.Endings.{EndsThere, one_ending, complete_from}
 use Rattle.delaunay_flip.proofs.bases.base_of.Goals as goal
 

@@ -1,6 +1,6 @@
 use Rattle.std.proofs.Common.{refl, subst}
 use Rattle.hinge_form.specs.Hinges.{of_place}
-use Rattle.hinge_form.proofs.Hinged.{convex_at}
+use Rattle.hinge_form.proofs.CallerLemmas.{convex_at}
 use Rattle.quad_field.specs.FieldNumber.{IsFieldNumber}
 use Rattle.delaunay_flip.proofs.Signs.{negative_not_positive}
 use Rattle.delaunay_flip.proofs.Seeing.{flip_fits}

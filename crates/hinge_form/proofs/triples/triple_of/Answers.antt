@@ -1,7 +1,7 @@
 use Rattle.std.proofs.Common.{refl}
 use Rattle.quad_field.specs.Width.{term_ops}
 use Rattle.plane.specs.Vectors.{vector_term}
-use Rattle.hinge_form.specs.Steps.{turn_times}
+use Rattle.rings.specs.Forms.{turn_times}
 use Rattle.hinge_form.proofs.Widths.{weighted_fits}
 use Rattle.hinge_form.proofs.triples.triple_of.Goals as goal
 

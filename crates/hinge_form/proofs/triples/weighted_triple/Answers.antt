@@ -1,6 +1,6 @@
 use Rattle.std.proofs.Common.{refl}
 use Rattle.quad_field.specs.Width.{term_ops, number}
-use Rattle.hinge_form.specs.Steps.{difference_of_products}
+use Rattle.rings.specs.Forms.{difference_of_products}
 use Rattle.hinge_form.proofs.Widths.{doubled_fits}
 use Rattle.hinge_form.proofs.triples.weighted_triple.Goals as goal
 

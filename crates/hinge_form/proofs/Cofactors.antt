@@ -1,20 +1,18 @@
--- An edge has one hinge triple.
-use Rattle.std.proofs.Common.{◌≡◌, ℕ, zero, suc, ◌+◌, ◌-◌, ◌*◌, ◌/◌, ◌<◌, ◌≤◌, List, [], ◌∷◌, length, sym, ◌∙◌, ap, subst, arith, inl, inr, get_or}
+-- What is left of a triple when its greatest common divisor is taken out is unique.
+use Rattle.std.proofs.Common.{◌≡◌, ℕ, zero, suc, ◌+◌, ◌-◌, ◌*◌, ◌/◌, ◌<◌, ◌≤◌, [], ◌∷◌, sym, ◌∙◌, ap, subst, arith, inl, inr, get_or}
 use Rattle.std.specs.Prelude.{ℤ, pos, ◌*ℤ◌, unsigned_abs}
 use Prim.Native.Nat.{◌∣◌}
 use Rattle.std.proofs.Math.Nat.{dvd-mul_right, mul_comm, mul-add, mul-one, add-mul, mul-div_cancel_left}
 use Rattle.std.proofs.lemmas.Bool.{cases_lt, cases_eq}
-use Rattle.std.proofs.lemmas.Int.{ints, unsigned_abs-mul}
-use Rattle.rings.proofs.Ordered.{cancel_factor}
+use Rattle.std.proofs.lemmas.Int.{unsigned_abs-mul}
+use Rattle.rings.proofs.Factors.{cancel_triple}
 use Rattle.quad_field.specs.declared.quad.Quad.{Quad}
 use Rattle.quad_field.specs.FieldNumber.{IsFieldNumber}
 use Rattle.quad_field.specs.Content.{DividesParts}
-use Rattle.quad_field.specs.Quads.{quad, quad_ops, scaled, IsPositive}
-use Rattle.quad_field.proofs.CallerLemmas.{quad_ring, order_of, scaled_is}
-use Rattle.tri_core.specs.declared.half.Half.{Half}
-use Rattle.tri_core.specs.Triangulation.{IsTriangulation}
-use Rattle.hinge_form.specs.Hinges.{Triple, IsHingeTriple, times, HasNoDivisor}
-use Rattle.hinge_form.proofs.Hinged.{divisor_some}
+use Rattle.quad_field.specs.Quads.{quad, quad_ops, scaled}
+use Rattle.quad_field.proofs.CallerLemmas.{quad_ring, order_of, natural_positive}
+use Rattle.hinge_form.specs.Triples.{Triple, zeros, times, HasNoDivisor, IsReduced}
+use Rattle.hinge_form.proofs.Multiples.{times_is, divisor_some}
 
 -- the cofactors of two whole numbers: wherever g·a = k·b, they divide a and b
 record Cofactors (g k : ℕ) : Type 0 where
@@ -118,35 +116,14 @@ module _ (g k : ℕ) (c : Cofactors g k) where
       let second : c.second ≡ 1 = fl c.second (three (DividesParts c.second) l.0 l.1 l.2 x.1 y.1 z.1) in
       sym (mul-one g) ∙ ap (λ n. g * n) (sym second) ∙ c.cross ∙ ap (λ n. k * n) first ∙ mul-one k
 
--- a whole number above 0 is positive
-pub whole_positive : (d g : ℕ) → 1 ≤ g → IsPositive d (quad (pos g) (pos 0))
-whole_positive d g some = inl (omega (arith, ints), omega (arith, ints), λ z. let e = z.0 in absurd (omega (arith, ints)))
-
--- a positive multiple is cancelled
-scaled_cancel : (d : ℕ) → IsFieldNumber d → (g : ℕ) → 1 ≤ g → (x y : Quad) → scaled (pos g) x ≡ scaled (pos g) y → x ≡ y
-scaled_cancel d field zero some x y e = absurd (omega arith)
-scaled_cancel d field (suc n) some x y e =
-    let O = quad_ops d in
-    let k = O.int (pos (suc n)) in
-    cancel_factor O (quad_ring d) (order_of d field) k x y
-    (λ none. (order_of d field).zero_is_not (subst (IsPositive d) none (whole_positive d (suc n) some)))
-    (sym (scaled_is d (pos (suc n)) x) ∙ e ∙ scaled_is d (pos (suc n)) y)
-
-times_cancel : (d : ℕ) → IsFieldNumber d → (g : ℕ) → 1 ≤ g → (l m : Triple) → times g l ≡ times g m → l ≡ m
-times_cancel d field g some l m e =
-    let x = scaled_cancel d field g some l.0 m.0 (ap (λ t. t.0) e) in
-    let y = scaled_cancel d field g some l.1 m.1 (ap (λ t. t.1) e) in
-    let z = scaled_cancel d field g some l.2 m.2 (ap (λ t. t.2) e) in
-    λ i. (x i, y i, z i)
-
--- an edge has one hinge triple
-pub one_triple : (d : ℕ) → IsFieldNumber d → (halves : List Half) → IsTriangulation d halves → (h : ℕ) → h < length halves → (l m : Triple)
-    → IsHingeTriple d halves h l → IsHingeTriple d halves h m → l ≡ m
-one_triple d field halves valid h below l m first second =
+-- a triple that isn't zero is reduced in one way
+pub one_reduced : (d : ℕ) → IsFieldNumber d → (full l m : Triple) → ¬ (full ≡ zeros) → IsReduced full l → IsReduced full m → l ≡ m
+one_reduced d field full l m some first second =
     let g = first.divisor in
     let k = second.divisor in
-    let gs : 1 ≤ g = divisor_some d halves h valid below field g l first.taken_out in
-    let ks : 1 ≤ k = divisor_some d halves h valid below field k m second.taken_out in
+    let gs : 1 ≤ g = divisor_some g full l first.taken_out some in
+    let ks : 1 ≤ k = divisor_some k full m second.taken_out some in
     let e : times g l ≡ times k m = sym first.taken_out ∙ second.taken_out in
     let same : g ≡ k = one_divisor g k (cofactors (g + k) g k (omega arith) gs ks) l m first.reduced second.reduced e in
-    times_cancel d field g gs l m (e ∙ ap (λ n. times n m) (sym same))
+    cancel_triple (quad_ops d) (quad_ring d) (order_of d field) (quad (pos g) (pos 0)) l m (natural_positive d g gs)
+    (sym (times_is d g l) ∙ e ∙ ap (λ n. times n m) (sym same) ∙ times_is d g m)
