@@ -6,8 +6,8 @@ pub mod Multiples
 pub mod Hinged
 pub mod Diagonals
 pub mod Halves
-pub mod Contents
 pub mod Points
+pub mod Parts
 pub mod Relations
 pub mod Cofactors
 pub mod Chords

@@ -1,7 +1,7 @@
 -- Triples of K-integers, their greatest common divisor taken out, and the width of three trees.
 use Rattle.std.specs.Prelude.{◌≡◌, ℕ, pos, [], ◌∷◌}
 use Rattle.quad_field.specs.Quads.{quad, scaled}
-use Rattle.quad_field.specs.Content.{DividesAll}
+use Rattle.quad_field.specs.Content.{IsPrimitive}
 use Rattle.quad_field.specs.Width.{Term, number, StepsFit}
 use Rattle.quad_field.specs.declared.quad.Quad.{Quad}
 use Rattle.hinge_form.specs.declared.form.Form.{Form}
@@ -29,7 +29,7 @@ times g l = (scaled (pos g) l.0, scaled (pos g) l.1, scaled (pos g) l.2)
 
 -- no whole number above 1 divides all six components
 abbrev pub HasNoDivisor : Triple → Type 0
-HasNoDivisor l = (k : ℕ) → DividesAll k (l.0 ∷ l.1 ∷ l.2 ∷ []) → k ≡ 1
+HasNoDivisor l = IsPrimitive (l.0 ∷ l.1 ∷ l.2 ∷ [])
 
 -- x is a triple with the greatest common divisor of its six components taken out
 pub record IsReduced (full x : Triple) : Type 0 where
