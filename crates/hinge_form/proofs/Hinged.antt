@@ -18,7 +18,7 @@ use Rattle.hinge_form.specs.Triples.{Triple, zeros}
 use Rattle.hinge_form.specs.Hinges.{IsHalfPlanePoint, hinge_a, hinge_c, hinge_d, hinge_value, full_triple, IsHingeTriple}
 use Rattle.hinge_form.proofs.Turned.{third_side, flat_place, twin_value, determinant_opposite_first, determinant_opposite_second}
 use Rattle.hinge_form.proofs.Rises.{turns_where_not_positive, flat_positive}
-use Rattle.hinge_form.proofs.Sides.{IsTriple, triple_turned, triple_third, triple_at}
+use Rattle.tri_core.proofs.CallerLemmas.{IsTriple, triple_turned, triple_third, triple_at}
 use Rattle.hinge_form.proofs.Multiples.{times_value, zeros_value, divisor_some, reduced_factor}
 
 -- the value of a hinge is that of its triple

@@ -1,11 +1,10 @@
 pub mod Widths
 pub mod Turned
 pub mod Rises
-pub mod Sides
 pub mod Multiples
 pub mod Hinged
 pub mod Diagonals
-pub mod Halves
+pub mod Corners
 pub mod Points
 pub mod Parts
 pub mod Relations
