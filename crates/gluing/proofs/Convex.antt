@@ -1,4 +1,4 @@
--- When a polygon is convex, and why it isn't proper.
+-- When a polygon is convex.
 use Rattle.std.proofs.Common.{◌≡◌, ◌↔◌, ℕ, zero, suc, ◌+◌, ◌<◌, ◌≤◌, inl, inr, List, [], ◌∷◌, Bool, false, Some, None, length, get_or, refl, sym, ◌∙◌, arith, IsTrue}
 use Rattle.std.specs.List.{AllByRecursion}
 use Rattle.std.proofs.lemmas.Bool.{both_ways, cases_order}
@@ -6,10 +6,8 @@ use Rattle.std.proofs.lemmas.List.{length-map}
 use Rattle.quad_field.specs.declared.quad.Quad.{Quad}
 use Rattle.plane.specs.Vectors.{Vector}
 use Rattle.surface_text.specs.declared.file.Polygon.{Polygon}
-use Rattle.gluing.specs.declared.cause.Cause.{Cause}
-use Rattle.gluing.specs.declared.cause.Cause.TheVariants.{NotClosed, Flat, NotConvex, Twice, NotOpposite, Unpaired, ManyTriangles, Apart}
-use Rattle.gluing.specs.Polygons.{Rises, TurnsOnce, IsConvex, IsProper}
-use Rattle.gluing.specs.Bounds.{AreCornersProper, IsFirstRise, IsCauseOf}
+use Rattle.gluing.specs.Polygons.{Rises, TurnsOnce, IsConvex}
+use Rattle.gluing.specs.Bounds.{AreCornersProper, IsFirstRise}
 use Rattle.gluing.specs.Parts.{sides_of}
 
 -- what holds of all elements holds of each
@@ -51,14 +49,3 @@ convex_from d sides corners once = record {
 
 pub convex_corners : (d : ℕ) (sides : List (Vector Quad)) → IsConvex d sides → AreCornersProper d sides
 convex_corners d sides convex = λ i h. (convex.sides_nonzero i h, convex.never_right i h, convex.never_back i h)
-
--- a polygon with a cause isn't proper
-pub cause_refutes : (d : ℕ) (sides : List (Vector Quad)) (cause : Cause) → IsCauseOf d sides (Some cause) → ¬ (IsProper d sides)
-cause_refutes d sides NotClosed h proper = h proper.closed
-cause_refutes d sides Flat h proper = proper.not_flat h.1
-cause_refutes d sides NotConvex h proper = h.2 proper.convex
-cause_refutes d sides Twice h proper = h
-cause_refutes d sides NotOpposite h proper = h
-cause_refutes d sides Unpaired h proper = h
-cause_refutes d sides ManyTriangles h proper = h
-cause_refutes d sides Apart h proper = h

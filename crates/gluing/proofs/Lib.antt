@@ -1,8 +1,13 @@
+pub mod CallerLemmas
 pub mod Widths
 pub mod Places
 pub mod Convex
 pub mod Twins
 pub mod Rooms
 pub mod Searches
+pub mod Decisions
+pub mod Joining
+pub mod Refusing
+pub mod Deciding
 pub mod Causes
 pub mod Fixtures

@@ -7,7 +7,7 @@ use Rattle.plane.specs.declared.vec2.Vec2.{Vec2}
 use Rattle.surface_text.specs.declared.file.Glue.{Glue}
 use Rattle.surface_text.specs.Limits.{NamesSides}
 use Rattle.gluing.specs.Gluings.{Name, first_of, second_of, no_glue, glue_at, IsPaired, IsJoined}
-use Rattle.gluing.specs.Tables.{row_at, entry_of, IsTable, IsRowFull, IsFirstFailure}
+use Rattle.gluing.specs.Tables.{row_at, entry_of, IsTable, IsRowFull, IsFirstWithout}
 use Rattle.gluing.specs.Search.{HasTwins, IsReachable, IsMarked, IsSearch, IsLater}
 use Rattle.gluing.proofs.Convex.{all_at}
 use Rattle.gluing.proofs.Twins.{first_same, row_paired}
@@ -193,14 +193,14 @@ HasTwins-table polygons glues rows there table = λ n twin is.
 
 -- the first row that isn't full is the first polygon that isn't paired
 pub paired_first : (polygons : List (List Vec2)) (glues : List Glue) (rows : List (List (Option Name))) (n : ℕ) (o : Option ℕ) → length rows ≡ n → IsTable polygons glues rows
-    → IsFirstFailure (λ p. IsRowFull (row_at rows p)) n o → IsFirstFailure (IsPaired polygons glues) (length polygons) o
+    → IsFirstWithout (λ p. IsRowFull (row_at rows p)) n o → IsFirstWithout (IsPaired polygons glues) (length polygons) o
 paired_first polygons glues rows n o e table h =
     first_same (λ p. IsRowFull (row_at rows p)) (IsPaired polygons glues) n (length polygons) o (sym e ∙ table.shape.as_many)
     (λ p below. row_paired polygons glues rows p table (omega (arith, table.shape.as_many))) h
 
 -- the first polygon that isn't reached is the first that isn't joined
 pub joined_first : (polygons : List (List Vec2)) (glues : List Glue) (rows : List (List (Option Name))) (n : ℕ) (o : Option ℕ) → length rows ≡ n → IsTable polygons glues rows
-    → IsFirstFailure (IsReachable rows) n o → IsFirstFailure (IsJoined glues) (length polygons) o
+    → IsFirstWithout (IsReachable rows) n o → IsFirstWithout (IsJoined glues) (length polygons) o
 joined_first polygons glues rows n o e table h =
     first_same (IsReachable rows) (IsJoined glues) n (length polygons) o (sym e ∙ table.shape.as_many)
     (λ p below. reached_same polygons glues rows p table) h

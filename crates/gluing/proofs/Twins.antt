@@ -2,21 +2,20 @@
 use Rattle.std.proofs.Common.{◌≡◌, ◌≢◌, ◌↔◌, ℕ, zero, suc, ◌+◌, ◌-◌, ◌<◌, ◌⊎◌, inl, inr, List, [], ◌∷◌, ◌++◌, length, take, get_or, set, Option, Some, None, refl, sym, ap, subst, ◌∙◌, arith}
 use Rattle.std.specs.List.{AllByRecursion, Contains}
 use Rattle.std.proofs.lemmas.Bool.{cases_eq, cases_lt}
-use Rattle.std.proofs.lemmas.List.{get_or-set_same, get_or-set_other, get_or_append_left, get_or_push, length_push, length-set, take_more}
+use Rattle.std.proofs.lemmas.List.{get_or-set_same, get_or-set_other, get_or_append_left, get_or_default, get_or_push, length_push, length-set, take_more}
 use Rattle.plane.specs.declared.vec2.Vec2.{Vec2}
 use Rattle.surface_text.specs.declared.file.Glue.{Glue}
 use Rattle.surface_text.specs.Limits.{NamesSides, IsThere}
-use Rattle.gluing.specs.declared.cause.Cause.{Cause}
-use Rattle.gluing.specs.declared.cause.Cause.TheVariants.{NotClosed, Flat, NotConvex, Twice, NotOpposite, Unpaired, ManyTriangles, Apart}
 use Rattle.gluing.specs.Gluings.{Name, Gluing, IsGluing, first_of, second_of, names, no_glue, glue_at, NamesTwice, IsPaired, AreTwins, triangle_count}
-use Rattle.gluing.specs.Tables.{row_at, entry_of, HasEntry, with_twin, with_glue, IsRepeated, HasShape, IsTable, IsLineCause, IsGlueCause, IsLineProper, IsRowFull, IsFirstFailure}
+use Rattle.gluing.specs.Tables.{row_at, entry_of, HasEntry, with_twin, with_glue, IsRepeated, HasShape, IsTable, line_conditions, IsRowFull, IsFirstWithout}
+use Rattle.gluing.specs.Refusals.{AllHold, FailsFor, glue_conditions}
 use Rattle.gluing.proofs.Convex.{all_at}
 
 abbrev Rows : Type 0
 Rows = List (List (Option Name))
 
 -- two names are the same or not
-cases_name : (m n : Name) → (m ≡ n) ⊎ (m ≢ n)
+pub cases_name : (m n : Name) → (m ≡ n) ⊎ (m ≢ n)
 cases_name m n =
     elim (cases_eq m.0 n.0) [
       | inl e ↦ elim (cases_eq m.1 n.1) [ inl f ↦ inl (same e f) | inr other ↦ inr (λ g. other (ap (λ (x : Name). x.1) g)) ]
@@ -237,33 +236,36 @@ repeated_names polygons glues rows k table =
       ]),
     )
 
--- why glue line k is refused
-pub line_cause : (d : ℕ) (polygons : List (List Vec2)) (glues : List Glue) (rows : Rows) (k : ℕ) (cause : Cause) → IsTable polygons (take k glues) rows
-    → IsLineCause d polygons rows (glue_at glues k) (Some cause) → IsGlueCause glues k cause × ¬ (IsLineProper d polygons glues k)
-line_cause d polygons glues rows k Twice table h =
-    let twice : NamesTwice glues k = (repeated_names polygons glues rows k table).0 h in (twice, (λ proper. proper.0 twice))
-line_cause d polygons glues rows k NotOpposite table h =
-    ((λ twice. h.0 ((repeated_names polygons glues rows k table).1 twice)), (λ proper. h.1 proper.1))
-line_cause d polygons glues rows k NotClosed table h = absurd h
-line_cause d polygons glues rows k Flat table h = absurd h
-line_cause d polygons glues rows k NotConvex table h = absurd h
-line_cause d polygons glues rows k Unpaired table h = absurd h
-line_cause d polygons glues rows k ManyTriangles table h = absurd h
-line_cause d polygons glues rows k Apart table h = absurd h
+-- glue line k as code reads it
+abbrev pub glue_read : List Glue → ℕ → Glue
+glue_read glues k = get_or glues k (record { p1 = 0; e1 = 0; p2 = 0; e2 = 0 })
 
-pub line_proper : (d : ℕ) (polygons : List (List Vec2)) (glues : List Glue) (rows : Rows) (k : ℕ) → IsTable polygons (take k glues) rows
-    → IsLineCause d polygons rows (glue_at glues k) None → IsLineProper d polygons glues k
-line_proper d polygons glues rows k table h = ((λ twice. h.0 ((repeated_names polygons glues rows k table).1 twice)), h.1)
+glue-read : (glues : List Glue) (k : ℕ) → k < length glues → glue_read glues k ≡ glue_at glues k
+glue-read glues k inside = get_or_default glues k (record { p1 = 0; e1 = 0; p2 = 0; e2 = 0 }) no_glue inside
 
--- the table with one more line
-pub table_step : (d : ℕ) (polygons : List (List Vec2)) (glues : List Glue) (rows next : Rows) (k : ℕ) → k < length glues → AllByRecursion (NamesSides polygons) glues
-    → IsTable polygons (take k glues) rows → IsLineCause d polygons rows (glue_at glues k) None → next ≡ with_glue rows (glue_at glues k)
-    → IsTable polygons (take (k + 1) glues) next
-table_step d polygons glues rows next k inside there table h is =
-    let g = glue_at glues k in
-    subst (λ (x : Rows). IsTable polygons (take (k + 1) glues) x) (sym is)
-    (subst (λ (x : List Glue). IsTable polygons x (with_glue rows g)) (sym (take_more glues k no_glue inside))
-    (IsTable-more polygons (take k glues) rows g (all_at (NamesSides polygons) glues no_glue k there inside) h.0 table))
+module _ (d : ℕ) (polygons : List (List Vec2)) (glues : List Glue) (rows : Rows) (k : ℕ) (inside : k < length glues) (table : IsTable polygons (take k glues) rows) where
+  -- the conditions on a glue line hold by the table
+  pub line_holds : AllHold (line_conditions d polygons rows (glue_read glues k)) → AllHold (glue_conditions d polygons glues k)
+  line_holds h =
+      let all : AllHold (line_conditions d polygons rows (glue_at glues k)) = subst (λ (g : Glue). AllHold (line_conditions d polygons rows g)) (glue-read glues k inside) h in
+      ((λ twice. all.0 ((repeated_names polygons glues rows k table).1 twice)), all.1)
+
+  -- or fail
+  pub line_fails : (cause : ℕ) → FailsFor cause (line_conditions d polygons rows (glue_read glues k)) → FailsFor cause (glue_conditions d polygons glues k)
+  line_fails cause h = elim (subst (λ (g : Glue). FailsFor cause (line_conditions d polygons rows g)) (glue-read glues k inside) h) [
+    | inl twice ↦ inl ((λ new. twice.0 (λ again. new ((repeated_names polygons glues rows k table).0 again))), twice.1)
+    | inr other ↦ inr ((λ twice. other.0 ((repeated_names polygons glues rows k table).1 twice)), other.1)
+  ]
+
+  -- the table with one more line
+  pub table_step : (next : Rows) → AllByRecursion (NamesSides polygons) glues → AllHold (line_conditions d polygons rows (glue_read glues k)) → next ≡ with_glue rows (glue_read glues k)
+      → IsTable polygons (take (k + 1) glues) next
+  table_step next there h is =
+      let g = glue_at glues k in
+      let all : AllHold (line_conditions d polygons rows g) = subst (λ (g : Glue). AllHold (line_conditions d polygons rows g)) (glue-read glues k inside) h in
+      subst (λ (x : Rows). IsTable polygons (take (k + 1) glues) x) (sym (is ∙ ap (with_glue rows) (glue-read glues k inside)))
+      (subst (λ (x : List Glue). IsTable polygons x (with_glue rows g)) (sym (take_more glues k no_glue inside))
+      (IsTable-more polygons (take k glues) rows g (all_at (NamesSides polygons) glues no_glue k there inside) all.0 table))
 
 -- a row is full where its polygon's sides are all named
 pub row_paired : (polygons : List (List Vec2)) (glues : List Glue) (rows : Rows) (p : ℕ) → IsTable polygons glues rows → p < length polygons
@@ -273,8 +275,8 @@ row_paired polygons glues rows p table inside = (
   (λ paired e below. entry_from_named polygons glues rows (p, e) table (paired e (inside, omega (arith, table.shape.as_long p)))),
 )
 
--- the first failure of one condition is that of another that says the same
-pub first_same : (P Q : ℕ → Type 0) (n m : ℕ) (o : Option ℕ) → n ≡ m → ((p : ℕ) → p < n → (P p ↔ Q p)) → IsFirstFailure P n o → IsFirstFailure Q m o
+-- the first place without one fact is the first without another that says the same
+pub first_same : (P Q : ℕ → Type 0) (n m : ℕ) (o : Option ℕ) → n ≡ m → ((p : ℕ) → p < n → (P p ↔ Q p)) → IsFirstWithout P n o → IsFirstWithout Q m o
 first_same P Q n m None e same h = λ k below. let l : k < n = omega arith in (same k l).0 (h k l)
 first_same P Q n m (Some p) e same h =
     (omega (arith, h.0), (λ k below. (same k (omega (arith, h.0))).0 (h.1 k below)), (λ q. h.2 ((same p h.0).1 q)))

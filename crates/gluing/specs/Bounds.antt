@@ -1,18 +1,16 @@
--- Numbers that are not wide, and what is said of one corner or one polygon.
+-- For private contracts alone: numbers that are not wide, and what is said of one corner.
 use Rattle.std.specs.Prelude.{◌≡◌, ℕ, ◌≤◌, ◌<◌, List, length, Option, Some, None, unsigned_abs}
 use Rattle.quad_field.specs.Ring.{Ops}
 use Rattle.quad_field.specs.Quads.{quad_ops, IsPositive}
 use Rattle.quad_field.specs.declared.quad.Quad.{Quad}
 use Rattle.plane.specs.Vectors.{Vector}
-use Rattle.gluing.specs.declared.cause.Cause.{Cause}
-use Rattle.gluing.specs.declared.cause.Cause.TheVariants.{NotClosed, Flat, NotConvex, Twice, NotOpposite, Unpaired, ManyTriangles, Apart}
-use Rattle.gluing.specs.Polygons.{zero_of, no_vector, side_at, side_after, corner, PointAlike, Rises, IsClosed, IsFlat, IsConvex, IsProper}
+use Rattle.gluing.specs.Polygons.{zero_of, no_vector, side_at, side_after, corner, PointAlike, Rises}
 
--- both parts are at most n in absolute value
+-- both parts of a K-integer are at most n in absolute value
 abbrev pub IsWithin : ℕ → Quad → Type 0
 IsWithin n x = (unsigned_abs x.a ≤ n) × (unsigned_abs x.b ≤ n)
 
--- both coordinates are
+-- both coordinates of a vector are within n
 abbrev pub IsVectorWithin : ℕ → Vector Quad → Type 0
 IsVectorWithin n v = IsWithin n v.0 × IsWithin n v.1
 
@@ -27,7 +25,7 @@ IsCornerProper d sides i =
     × ¬ (IsPositive d ((quad_ops d).neg (corner d sides i)))
     × (corner d sides i ≡ zero_of d → PointAlike d (side_at d sides i) (side_after d sides i))
 
--- all corners are so
+-- no side is zero, and no corner turns right or back
 abbrev pub AreCornersProper : ℕ → List (Vector Quad) → Type 0
 AreCornersProper d sides = (i : ℕ) → i < length sides → IsCornerProper d sides i
 
@@ -36,15 +34,3 @@ abbrev pub IsFirstRise : ℕ → List (Vector Quad) → ℕ → Option ℕ → T
 IsFirstRise d sides from None = (k : ℕ) → from ≤ k → k < length sides → ¬ (Rises d sides k)
 IsFirstRise d sides from (Some i) =
     (from ≤ i) × (i < length sides) × Rises d sides i × ((k : ℕ) → from ≤ k → k < i → ¬ (Rises d sides k))
-
--- why a polygon is refused, or that it is proper
-abbrev pub IsCauseOf : ℕ → List (Vector Quad) → Option Cause → Type 0
-IsCauseOf d sides None = IsProper d sides
-IsCauseOf d sides (Some NotClosed) = ¬ (IsClosed d sides)
-IsCauseOf d sides (Some Flat) = IsClosed d sides × IsFlat d sides
-IsCauseOf d sides (Some NotConvex) = IsClosed d sides × ¬ (IsFlat d sides) × ¬ (IsConvex d sides)
-IsCauseOf d sides (Some Twice) = ⊥
-IsCauseOf d sides (Some NotOpposite) = ⊥
-IsCauseOf d sides (Some Unpaired) = ⊥
-IsCauseOf d sides (Some ManyTriangles) = ⊥
-IsCauseOf d sides (Some Apart) = ⊥

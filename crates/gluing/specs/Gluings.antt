@@ -1,4 +1,4 @@
--- Polygons glued side to side.
+-- Polygons glued side to side by translations: the surfaces that Veech and Bowman call translation surfaces.
 use Rattle.std.specs.Prelude.{◌≡◌, ◌↔◌, ℕ, ◌+◌, ◌-◌, ◌<◌, ◌≤◌, ◌⊎◌, Bool, IsTrue, List, [], ◌∷◌, ◌++◌, length, take, get_or, Contains}
 use Rattle.std.specs.List.{flat_map, AllByRecursion}
 use Rattle.quad_field.specs.Quads.{quad_ops}
@@ -7,16 +7,18 @@ use Rattle.plane.specs.Vectors.{vector_sum}
 use Rattle.plane.specs.declared.vec2.Vec2.{Vec2}
 use Rattle.surface_text.specs.declared.file.Glue.{Glue}
 use Rattle.surface_text.specs.Limits.{IsPolygon, NamesSides, IsThere}
+use Rattle.surface_text.specs.Spelling.{Content}
 use Rattle.gluing.specs.Polygons.{no_vector, polygon_at, side_at, IsProper}
 
 -- the name of a side: the number of its polygon, and its own number there
 abbrev pub Name : Type 0
 Name = ℕ × ℕ
 
--- the side that a glue line names first, and the one that it names second
+-- the side that a glue line names first
 abbrev pub first_of : Glue → Name
 first_of g = (g.p1, g.e1)
 
+-- the side that a glue line names second
 abbrev pub second_of : Glue → Name
 second_of g = (g.p2, g.e2)
 
@@ -24,15 +26,15 @@ second_of g = (g.p2, g.e2)
 abbrev pub names : List Glue → List Name
 names glues = flat_map (λ g. first_of g ∷ second_of g ∷ []) glues
 
--- past the end no definition asks it
+-- what stands past the last glue line: one that no file has, since a file has no polygon 256
 abbrev pub no_glue : Glue
-no_glue = record { p1 = 0; e1 = 0; p2 = 0; e2 = 0 }
+no_glue = record { p1 = 256; e1 = 0; p2 = 256; e2 = 0 }
 
 -- glue line k
 abbrev pub glue_at : List Glue → ℕ → Glue
 glue_at glues k = get_or glues k no_glue
 
--- glue line k names a side that an earlier line has named, or the line itself
+-- glue line k names a side that an earlier line has named, or one side twice
 abbrev pub NamesTwice : List Glue → ℕ → Type 0
 NamesTwice glues k =
     let g = glue_at glues k in
@@ -47,12 +49,12 @@ IsOpposite d polygons g =
 abbrev pub IsPaired : List (List Vec2) → List Glue → ℕ → Type 0
 IsPaired polygons glues p = (e : ℕ) → IsThere polygons p e → Contains (names glues) (p, e)
 
--- how many triangles polygons are cut into: two less than the sides, for each
+-- how many triangles polygons are cut into: two less than the sides, for each polygon
 abbrev pub triangle_count : List (List Vec2) → ℕ
 triangle_count [] = 0
 triangle_count (sides ∷ polygons) = (length sides - 2) + triangle_count polygons
 
--- a set of polygons that holds both polygons of a glue line or none of them
+-- a set of polygons that holds both polygons of each glue line or none of them
 abbrev pub IsClosedUnderGlues : List Glue → (ℕ → Bool) → Type 0
 IsClosedUnderGlues glues set = AllByRecursion (λ g. IsTrue (set g.p1) ↔ IsTrue (set g.p2)) glues
 
@@ -72,6 +74,10 @@ pub record Gluing : Type 0 where
   pub field : ℕ
   pub polygons : List (List Vec2)
   pub glues : List Glue
+
+-- the polygons of a file, with its glue lines
+abbrev pub gluing_of : Content → Gluing
+gluing_of file = record { field = file.field; polygons = file.polygons; glues = file.glues }
 
 -- proper polygons within the limits of a file, whose sides are paired by opposite vectors, each once, into one surface of at most 256 triangles
 pub record IsGluing (g : Gluing) : Type 0 where

@@ -1,11 +1,11 @@
 //! Glued polygons.
 
-ghost use Rattle.std.specs.Prelude.{◌≡◌, ◌≤◌, ◌⊎◌, ℕ, length, map, IfOk, OnOk, IfErr, MatchResult};
+ghost use Rattle.std.specs.Prelude.{◌≡◌, ◌≤◌, ◌⊎◌, ℕ, length, map, IfOk, IfErr, IsErrAnd};
 ghost use Rattle.surface_text.specs.declared.file.Polygon.{Polygon as PolygonValue};
 ghost use Rattle.surface_text.specs.Spelling.{content, text};
 ghost use Rattle.surface_text.specs.Limits.{IsWithinLimits, IsThere};
 ghost use Rattle.gluing.specs.declared.fault.GlueFault.TheVariants.{Bad, Memory};
-ghost use Rattle.gluing.specs.Gluings.{Gluing, IsGluing, AreTwins};
+ghost use Rattle.gluing.specs.Gluings.{Gluing, IsGluing, AreTwins, gluing_of};
 ghost use Rattle.gluing.specs.Tables.{rows_of, IsTable};
 ghost use Rattle.gluing.specs.Refusals.{IsRefused, IsFaultOf};
 
@@ -48,10 +48,9 @@ fn with_twins(
     file: &SurfaceFile,
     twins: Vec<Vec<Option<(u32, u32)>>>,
 ) -> Result<Glued, GlueFault>
-    requires valid { IsGluing (record { field = file.now.field; polygons = (content file.now).polygons; glues = file.now.glues.items }) }
+    requires valid { IsGluing (gluing_of (content file.now)) }
     requires table { IsTable (content file.now).polygons file.now.glues.items (rows_of twins.items) }
-    ensures glued { IfOk result (λ g. (g.field ≡ file.now.field)
-        × (g.polygons ≡ (content file.now).polygons) × (g.glues ≡ file.now.glues.items)) }
+    ensures glued { IfOk result (λ g. g ≡ gluing_of (content file.now)) }
     ensures fault { IfErr result (λ fault. fault ≡ Memory) }
 {
     let polygons = copy_polygons(alloc, file.polygons.as_slice())?;
@@ -64,19 +63,19 @@ fn with_twins(
     })
 }
 
-/// The polygons of the file glued by its glue lines, refused exactly where they make no surface, memory aside.
+/// The polygons of the file glued by its glue lines. Refused exactly where they make no surface, for the first cause in
+/// its line, or for want of memory.
 pub fn glue(alloc: Global, f: &Field, file: &SurfaceFile) -> Result<Glued, GlueFault>
     requires limits { IsWithinLimits (content file.now) }
     requires short { length (text (content file.now)) ≤ 1048576 }
     requires field { f.now ≡ file.now.field }
-    ensures glued { IfOk result (λ g. (g.field ≡ file.now.field)
-        × (g.polygons ≡ (content file.now).polygons) × (g.glues ≡ file.now.glues.items)) }
+    ensures glued { IfOk result (λ g. g ≡ gluing_of (content file.now)) }
     ensures cause { IfErr result (IsFaultOf (content file.now)) }
     // The other way round: what makes a surface is glued, and what is refused is refused so.
-    ensures accepted { IsGluing (record { field = file.now.field; polygons = (content file.now).polygons; glues = file.now.glues.items })
+    ensures accepted { IsGluing (gluing_of (content file.now))
         → IfErr result (λ fault. fault ≡ Memory) }
     ensures refused { (cause line : ℕ) → IsRefused (content file.now) cause line
-        → MatchResult result (λ _. ⊥) (λ fault. (fault ≡ Bad cause line) ⊎ (fault ≡ Memory)) }
+        → IsErrAnd result (λ fault. (fault ≡ Bad cause line) ⊎ (fault ≡ Memory)) }
 {
     match check(alloc, f, file) {
         Ok(twins) => with_twins(alloc, file, twins),
@@ -100,7 +99,7 @@ impl Glued {
     {
         match entry(self.twins.as_slice(), p as usize, e as usize) {
             Some(twin) => twin,
-            None => (p, e),
+            None => unreachable!(),
         }
     }
 }

@@ -1,7 +1,7 @@
 //! Whether each polygon is joined to polygon 0.
 
 ghost use Rattle.std.specs.Prelude.{◌≡◌, ℕ, ◌≤◌, length, IfOk};
-ghost use Rattle.gluing.specs.Tables.{rows_of, IsFirstFailure};
+ghost use Rattle.gluing.specs.Tables.{rows_of, IsFirstWithout};
 ghost use Rattle.gluing.specs.Search.{HasTwins, IsReachable, IsMarked};
 
 use super::search::mark_joined;
@@ -9,7 +9,7 @@ use std::alloc::{AllocError, Global};
 
 /// The first polygon that isn't marked.
 fn first_unmarked(marks: &[bool]) -> Option<usize>
-    ensures { IsFirstFailure (IsMarked marks.now) (length marks.now) result }
+    ensures { IsFirstWithout (IsMarked marks.now) (length marks.now) result }
 {
     for p in 0..marks.len() {
         if !marks[p] {
@@ -27,7 +27,7 @@ pub fn first_apart(
     requires some { 1 ≤ length table.now }
     requires few { length table.now ≤ 256 }
     requires twins { HasTwins (rows_of table.now) }
-    ensures { IfOk result (IsFirstFailure (IsReachable (rows_of table.now)) (length table.now)) }
+    ensures { IfOk result (IsFirstWithout (IsReachable (rows_of table.now)) (length table.now)) }
 {
     let count = table.len();
     let mut found = Vec::with_capacity(alloc, count)?;

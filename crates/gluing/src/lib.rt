@@ -3,7 +3,6 @@
 //! Whoever holds a `Glued` knows by its type that its polygons are convex, paired and connected.
 #![tactic(auto)]
 
-mod cause;
 mod checks;
 mod closed;
 mod copies;
@@ -12,6 +11,7 @@ mod fault;
 mod faults;
 mod glued;
 mod joined;
+pub mod laws;
 mod lines;
 mod paired;
 mod polygons;

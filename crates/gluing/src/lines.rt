@@ -1,16 +1,16 @@
 //! Whether each glue line names two sides once, with opposite vectors.
 
-ghost use Rattle.std.specs.Prelude.{◌≡◌, ◌↔◌, ℕ, ◌<◌, [], length, get_or, IfOk, IsTrue};
+ghost use Rattle.std.specs.Prelude.{◌≡◌, ◌↔◌, ℕ, [], length, IsTrue, MatchOption};
 ghost use Rattle.std.specs.List.{AllByRecursion};
 ghost use Rattle.surface_text.specs.Limits.{IsPolygon, IsThere, NamesSides};
 ghost use Rattle.plane.specs.Vectors.{vector};
 ghost use Rattle.gluing.specs.Polygons.{polygon_at, side_at};
 ghost use Rattle.surface_text.specs.Limits.{IsBoundedVector};
 ghost use Rattle.gluing.specs.Gluings.{IsOpposite};
-ghost use Rattle.gluing.specs.Parts.{sides_of};
-ghost use Rattle.gluing.specs.Tables.{rows_of, HasShape, IsTable, IsLineCause, IsFirstUnglued};
+ghost use Rattle.gluing.specs.Parts.{sides_of, line_number};
+ghost use Rattle.gluing.specs.Tables.{rows_of, HasShape, IsTable, line_conditions};
+ghost use Rattle.gluing.specs.Refusals.{glue_conditions, AllHold, FailsFor, HoldBefore, IsFirstFailure};
 
-use super::cause::Cause;
 use super::corners::side;
 use super::polygons::sides_at;
 use super::table::{is_repeated, pair};
@@ -18,6 +18,27 @@ use super::vectors::{add, is_zero};
 use plane::Vec2;
 use quad_field::Field;
 use surface_text::{Glue, Polygon};
+
+/// Why a glue line is refused, in the order in which the causes are tried.
+#[derive(Clone, Copy, Debug, PartialEq, Eq)]
+pub(crate) enum LineCause {
+    /// It names a side that an earlier line has named, or one side twice.
+    Twice,
+    /// Its two sides aren't opposite.
+    NotOpposite,
+}
+
+impl LineCause {
+    /// The number of the cause.
+    pub(crate) fn number(self) -> u8
+        ensures { result ≡ line_number self }
+    {
+        match self {
+            LineCause::Twice => 18,
+            LineCause::NotOpposite => 19,
+        }
+    }
+}
 
 /// Side e of polygon p.
 fn side_of(polygons: &[Polygon], p: u32, e: u32) -> &Vec2
@@ -43,39 +64,44 @@ fn is_opposite(f: &Field, polygons: &[Polygon], g: &Glue) -> bool
     is_zero(f, &sum)
 }
 
-/// Why a glue line is refused: the least cause, or none.
+/// Why a glue line is refused: the first cause, or none.
 fn cause_of_line(
     f: &Field,
     polygons: &[Polygon],
     table: &[Vec<Option<(u32, u32)>>],
     g: &Glue,
-) -> Option<Cause>
+) -> Option<LineCause>
     requires there { NamesSides (sides_of polygons.now) g.now }
     requires bounded { AllByRecursion IsPolygon (sides_of polygons.now) }
     requires shape { HasShape (sides_of polygons.now) (rows_of table.now) }
-    ensures { IsLineCause f.now (sides_of polygons.now) (rows_of table.now) g.now result }
+    ensures { MatchOption result
+        (AllHold (line_conditions f.now (sides_of polygons.now) (rows_of table.now) g.now))
+        (λ cause. FailsFor (line_number cause) (line_conditions f.now (sides_of polygons.now) (rows_of table.now) g.now)) }
 {
     if is_repeated(table, g) {
-        return Some(Cause::Twice);
+        return Some(LineCause::Twice);
     }
     if is_opposite(f, polygons, g) {
         None
     } else {
-        Some(Cause::NotOpposite)
+        Some(LineCause::NotOpposite)
     }
 }
 
 /// Fills the table by the glue lines, up to the first that is refused, which is answered with its cause.
-pub fn first_unglued(
+pub(crate) fn first_unglued(
     f: &Field,
     polygons: &[Polygon],
     glues: &[Glue],
     table: &mut [Vec<Option<(u32, u32)>>],
-) -> Option<(Cause, usize)>
+) -> Option<(LineCause, usize)>
     requires there { AllByRecursion (NamesSides (sides_of polygons.now)) glues.now }
     requires bounded { AllByRecursion IsPolygon (sides_of polygons.now) }
     requires empty { IsTable (sides_of polygons.now) [] (rows_of table.old) }
-    ensures { IsFirstUnglued f.now (sides_of polygons.now) glues.now (rows_of table.new) result }
+    ensures { MatchOption result
+        (HoldBefore (glue_conditions f.now (sides_of polygons.now) glues.now) (length glues.now)
+        × IsTable (sides_of polygons.now) glues.now (rows_of table.new))
+        (λ found. IsFirstFailure (glue_conditions f.now (sides_of polygons.now) glues.now) (length glues.now) (line_number found.0) found.1) }
 {
     for k in 0..glues.len() {
         let g = &glues[k];

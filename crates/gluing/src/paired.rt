@@ -1,7 +1,7 @@
 //! Whether each side is named by a glue line.
 
 ghost use Rattle.std.specs.Prelude.{◌≡◌, ◌↔◌, length, IsTrue};
-ghost use Rattle.gluing.specs.Tables.{rows_of, row_at, IsRowFull, IsFirstFailure};
+ghost use Rattle.gluing.specs.Tables.{rows_of, row_at, IsRowFull, IsFirstWithout};
 
 /// Whether each entry of a row is filled.
 fn is_row_full(row: &[Option<(u32, u32)>]) -> bool
@@ -17,7 +17,7 @@ fn is_row_full(row: &[Option<(u32, u32)>]) -> bool
 
 /// The first polygon with a side that has no twin.
 pub fn first_unpaired(table: &[Vec<Option<(u32, u32)>>]) -> Option<usize>
-    ensures { IsFirstFailure (λ p. IsRowFull (row_at (rows_of table.now) p)) (length table.now) result }
+    ensures { IsFirstWithout (λ p. IsRowFull (row_at (rows_of table.now) p)) (length table.now) result }
 {
     for p in 0..table.len() {
         if !is_row_full(table[p].as_slice()) {

@@ -5,7 +5,7 @@ ghost use Rattle.std.specs.List.{AllByRecursion};
 ghost use Rattle.surface_text.specs.Limits.{IsPolygon};
 ghost use Rattle.gluing.specs.Gluings.{triangle_count};
 ghost use Rattle.gluing.specs.Parts.{sides_of};
-ghost use Rattle.gluing.specs.Tables.{IsFirstFailure};
+ghost use Rattle.gluing.specs.Tables.{IsFirstWithout};
 
 use super::polygons::sides_at;
 use surface_text::Polygon;
@@ -13,7 +13,7 @@ use surface_text::Polygon;
 /// The first polygon up to which the polygons are cut into more than 256 triangles.
 pub fn first_over(polygons: &[Polygon]) -> Option<usize>
     requires { AllByRecursion IsPolygon (sides_of polygons.now) }
-    ensures { IsFirstFailure (λ p. triangle_count (take (p + 1) (sides_of polygons.now)) ≤ 256) (length (sides_of polygons.now)) result }
+    ensures { IsFirstWithout (λ p. triangle_count (take (p + 1) (sides_of polygons.now)) ≤ 256) (length (sides_of polygons.now)) result }
 {
     let mut count = 0;
     for p in 0..polygons.len() {

@@ -17,8 +17,8 @@ pub fn add(f: &Field, u: &Vec2, v: &Vec2) -> Vec2
     ensures { vector result ≡ vector_sum (quad_ops f.now) (vector u.now) (vector v.now) }
 {
     match sum(f, u, v) {
-        Ok(w) => w,
-        Err(_) => *u,
+        Ok(sum) => sum,
+        Err(_) => unreachable!(),
     }
 }
 
@@ -33,7 +33,7 @@ pub fn turn(f: &Field, u: &Vec2, v: &Vec2) -> Sign
     let _number = f.number();
     match det(f, u, v) {
         Ok(area) => f.sign(area),
-        Err(_) => Sign::Zero,
+        Err(_) => unreachable!(),
     }
 }
 
@@ -57,7 +57,7 @@ pub fn point_alike(f: &Field, u: &Vec2, v: &Vec2) -> bool
     let _number = f.number();
     match inner_product(f, u, v) {
         Ok(product) => f.sign(product) == Sign::Plus,
-        Err(_) => false,
+        Err(_) => unreachable!(),
     }
 }
 
