@@ -5,7 +5,7 @@ use Rattle.std.proofs.lemmas.Bool.{cases_eq, cases_lt}
 use Rattle.quad_field.specs.declared.quad.Quad.{Quad}
 use Rattle.quad_field.specs.Quads.{quad_ops, IsPositive}
 use Rattle.quad_field.specs.FieldNumber.{IsFieldNumber}
-use Rattle.quad_field.proofs.KIntegers.{quad_ring, quad_order}
+use Rattle.quad_field.proofs.CallerLemmas.{quad_ring, quad_order}
 use Rattle.rings.specs.Order.{Sign, is_zero, is_positive, is_negative}
 use Rattle.rings.proofs.Ordered.{not_both_signs}
 use Rattle.plane.specs.Halves.{IsUpper}

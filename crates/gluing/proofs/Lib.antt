@@ -4,7 +4,7 @@ pub mod Places
 pub mod Convex
 pub mod Twins
 pub mod Rooms
-pub mod Searches
+pub mod Neighbours
 pub mod Decisions
 pub mod Joining
 pub mod Refusing

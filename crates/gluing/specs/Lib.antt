@@ -4,4 +4,4 @@ pub mod Refusals
 pub mod Bounds
 pub mod Parts
 pub mod Tables
-pub mod Search
+pub mod Neighbours

@@ -99,6 +99,7 @@ fn check_joining(
     table: &[Vec<Option<(u32, u32)>>],
 ) -> Result<(), GlueFault>
     requires limits { IsWithinLimits (content file.now) }
+    requires paired { Passes (pairing_check (content file.now)) }
     requires table { IsTable (content file.now).polygons file.now.glues.items (rows_of table.now) }
     ensures passes { OnOk result (Passes (joining_check (content file.now))) }
     ensures refused { IfErr result (IsFaultBy (joining_check (content file.now))) }

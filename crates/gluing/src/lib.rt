@@ -15,7 +15,6 @@ pub mod laws;
 mod lines;
 mod paired;
 mod polygons;
-mod search;
 mod table;
 mod triangles;
 mod turns;

@@ -5,7 +5,7 @@ use Rattle.gluing.specs.Refusals.{pairing_check}
 use Rattle.gluing.specs.Tables.{rows_of}
 use Rattle.gluing.proofs.Causes.{one_passes, one_found, refused_at}
 use Rattle.gluing.proofs.Rooms.{length-rows}
-use Rattle.gluing.proofs.Searches.{paired_first}
+use Rattle.gluing.proofs.Neighbours.{paired_first}
 use Rattle.gluing.proofs.checks.check_pairing.Goals as goal
 
 pub returns-in-Some-clause-refused : goal.returns-in-Some-clause-refused
