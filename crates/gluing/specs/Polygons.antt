@@ -22,13 +22,9 @@ vectors sides = map vector sides
 abbrev pub polygon_at : List (List Vec2) → ℕ → List (Vector Quad)
 polygon_at polygons p = vectors (get_or polygons p [])
 
--- what stands past the last side: a vector that no file has, since its numbers are above 1,000,000,000
-abbrev pub no_side : ℕ → Vector Quad
-no_side d = ((quad_ops d).int (pos 1000000001), (quad_ops d).int (pos 1000000001))
-
--- side i of a polygon
+-- side i of a polygon; past the last side stands the zero vector, which is no side of a convex polygon
 abbrev pub side_at : ℕ → List (Vector Quad) → ℕ → Vector Quad
-side_at d sides i = slice_index_or sides i (no_side d)
+side_at d sides i = slice_index_or sides i (no_vector d)
 
 -- the side after side i, round the end
 abbrev pub side_after : ℕ → List (Vector Quad) → ℕ → Vector Quad
