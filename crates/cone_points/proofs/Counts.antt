@@ -4,7 +4,7 @@ use Rattle.std.specs.Prelude.{◌⊎◌, Contains}
 use mathlib.Core.Logic.{inl, inr}
 use Rattle.std.proofs.lemmas.Bool.{cases_eq, eq-eqb}
 use Rattle.cone_points.specs.Vertices.{IsDistinct, IsNumberOf}
-use Rattle.cone_points.proofs.Searches.{ne-eqb}
+use Rattle.rings.proofs.Pigeonhole.{ne-eqb}
 
 -- true or false
 pub either : (b : Bool) → (b ≡ true) ⊎ (b ≡ false)

@@ -3,10 +3,11 @@ pub mod Swaps
 pub mod Counts
 pub mod OrbitCounts
 pub mod Parity
-pub mod Searches
 pub mod Numbers
 pub mod Rounds
 pub mod Directions
+pub mod Passing
+pub mod Directed
 pub mod Rising
 pub mod Totals
 pub mod Walking

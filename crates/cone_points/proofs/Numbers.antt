@@ -27,6 +27,11 @@ pub number_sum : (a b c : ℕ → Bool) (n : ℕ) → ((k : ℕ) → k < n → b
 number_sum a b c zero h = refl
 number_sum a b c (suc n) h = omega (arith, h n (omega arith), number_sum a b c n (λ k l. h k (omega (arith, l))))
 
+-- two sets that are together as large as two others
+pub number_pairs : (a b c e : ℕ → Bool) (n : ℕ) → ((k : ℕ) → k < n → bit (a k) + bit (b k) ≡ bit (c k) + bit (e k)) → number_below a n + number_below b n ≡ number_below c n + number_below e n
+number_pairs a b c e zero h = refl
+number_pairs a b c e (suc n) h = omega (arith, h n (omega arith), number_pairs a b c e n (λ k l. h k (omega (arith, l))))
+
 pub number_positive : (a : ℕ → Bool) (n k : ℕ) → k < n → a k ≡ true → 1 ≤ number_below a n
 number_positive a zero k l e = absurd (omega (arith, l))
 number_positive a (suc n) k l e = go (cases_eq k n) (λ less. number_positive a n k less e)
@@ -112,13 +117,16 @@ number_moved n (suc m) f inside apart a =
     kept true q e = sym (ap not e)
     kept false q e = refl
 
--- numbers that are exchanged in pairs
-pub number_exchanged : (n : ℕ) (f : ℕ → ℕ) → ((i : ℕ) → i < n → f i < n) → ((i : ℕ) → i < n → f (f i) ≡ i) → (a : ℕ → Bool) → number_below (λ k. a (f k)) n ≡ number_below a n
-number_exchanged n f inside twice a =
-    let apart : (i j : ℕ) → i < j → j < n → ¬ (f i ≡ f j) = λ i j l k e. omega (arith, l, sym (twice i (omega (arith, l, k))) ∙ ap f e ∙ twice j k) in
+-- numbers that are permuted
+pub number_permuted : (n : ℕ) (f : ℕ → ℕ) → ((i : ℕ) → i < n → f i < n) → ((i j : ℕ) → i < j → j < n → ¬ (f i ≡ f j)) → (a : ℕ → Bool) → number_below (λ k. a (f k)) n ≡ number_below a n
+number_permuted n f inside apart a =
     let most = number_moved n n f inside apart a in
     let other = number_moved n n f inside apart (λ k. not (a k)) in
     omega (arith, most, other, number_rest a n, number_rest (λ k. a (f k)) n)
+
+-- numbers that are exchanged in pairs
+number_exchanged : (n : ℕ) (f : ℕ → ℕ) → ((i : ℕ) → i < n → f i < n) → ((i : ℕ) → i < n → f (f i) ≡ i) → (a : ℕ → Bool) → number_below (λ k. a (f k)) n ≡ number_below a n
+number_exchanged n f inside twice a = number_permuted n f inside (λ i j l k e. omega (arith, l, sym (twice i (omega (arith, l, k))) ∙ ap f e ∙ twice j k)) a
 
 -- one of each pair is a member
 pub number_half : (n : ℕ) (f : ℕ → ℕ) → ((i : ℕ) → i < n → f i < n) → ((i : ℕ) → i < n → f (f i) ≡ i) → (a : ℕ → Bool) → ((i : ℕ) → i < n → a (f i) ≡ not (a i)) → 2 * number_below a n ≡ n

@@ -3,7 +3,7 @@ use Rattle.std.proofs.Common.{◌≡◌, ℕ, zero, suc, ◌+◌, ◌*◌, ◌-�
 use Rattle.std.specs.Prelude.{◌⊎◌}
 use mathlib.Core.Logic.{inl, inr}
 use Rattle.std.proofs.lemmas.Bool.{cases_eq, cases_lt}
-use Rattle.cone_points.proofs.Searches.{First, first_below, Repeats, repeats}
+use Rattle.rings.proofs.Pigeonhole.{First, first_below, Repeats, repeats}
 
 -- f permutes the numbers below n
 pub record IsPermutation (n : ℕ) (f : ℕ → ℕ) : Type 0 where

@@ -14,7 +14,7 @@ use Rattle.tri_core.specs.HalfEdges.{vector_at, twin_at, previous_of}
 use Rattle.tri_core.specs.Triangulation.{IsTriangle, IsTriangulation}
 use Rattle.cone_points.specs.Vertices.{turned, turned_often, IsVertex, IsNumberOf}
 use Rattle.tri_core.specs.Flips.{IsEdge}
-use Rattle.cone_points.proofs.Searches.{ne-eqb}
+use Rattle.rings.proofs.Pigeonhole.{ne-eqb}
 use Rattle.cone_points.proofs.Orbits.{IsPermutation, often, often_below, IsLeast}
 use Rattle.cone_points.proofs.Swaps.{AreSwapped}
 use Rattle.cone_points.proofs.Counts.{count, count_same, number_counted}

@@ -1,6 +1,6 @@
 -- When a turn to the left passes a direction, and that going round passes each direction as often as any other.
 use Rattle.std.proofs.Common.{◌≡◌, ℕ, ◌+◌, [], ◌∷◌, Bool, true, false, not, ◌&&◌, refl, subst, sym, ap, ◌∙◌}
-use Rattle.std.specs.Prelude.{pos, ◌⊎◌, ◌↔◌}
+use Rattle.std.specs.Prelude.{pos, ◌⊎◌}
 use mathlib.Core.Logic.{inl, inr}
 use Rattle.rings.specs.Ring.{Ops, IsRing, Expr, var, expr}
 use Rattle.rings.specs.Order.{IsOrdered, Sign, is_zero, is_positive, is_negative, IsNotNegative}
@@ -8,7 +8,7 @@ use Rattle.rings.specs.Forms.{det}
 use Rattle.rings.specs.Vectors.{Vector, zero_vector, IsUpper}
 use Rattle.rings.proofs.Solver.{identity}
 use Rattle.rings.proofs.Ordered.{factor, product_not_negative, square, squares_zero, sum_not_negative}
-use Rattle.rings.proofs.Signs.{minus_zero, never_below, never_positive, not_positive, not_negative_or}
+use Rattle.rings.proofs.Signs.{minus_zero, never_below, never_positive, not_negative_or}
 use Rattle.rings.proofs.Turning.{upper_not_below}
 use Rattle.cone_points.proofs.Numbers.{bit}
 open expr use {add as ◌+'◌, sub as ◌-'◌, mul as ◌*'◌, neg as neg', int as int'}
@@ -227,6 +227,9 @@ module _ {R : Type 0} (O : Ops R) (L : IsRing O) {P : R → Type 0} (Q : IsOrder
       above (inr n) = absurd (still (subst P (sym (axis_left v)) n))
       above (inl (inr p)) = inl p
       above (inl (inl e)) =
-          inr (e, factor O L Q v.0 (minus u.1)
-          (subst P (ap (λ (t : R). u.0 ⊗ t ⊖ u.1 ⊗ v.0) e
-          ∙ identity O L (u.0 ∷ u.1 ∷ v.0 ∷ []) (var 0 *' int' (pos 0) -' var 1 *' var 2) (var 2 *' neg' (var 1)) tt) turn) low)
+          inr (
+            e,
+            factor O L Q v.0 (minus u.1)
+                (subst P (ap (λ (t : R). u.0 ⊗ t ⊖ u.1 ⊗ v.0) e
+                ∙ identity O L (u.0 ∷ u.1 ∷ v.0 ∷ []) (var 0 *' int' (pos 0) -' var 1 *' var 2) (var 2 *' neg' (var 1)) tt) turn) low,
+          )

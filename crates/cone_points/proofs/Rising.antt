@@ -15,7 +15,8 @@ use Rattle.tri_core.specs.Triangulation.{IsTriangulation, IsTriangle}
 use Rattle.cone_points.specs.Vertices.{turned, turned_often, Rises}
 use Rattle.plane.specs.Halves.{IsUpper}
 use Rattle.cone_points.specs.Walks.{TellsUpper, rises_by}
-use Rattle.cone_points.proofs.Directions.{no_upper_round, no_lower_round, lower_of, upper_once, upper_decided, not_all_upper, not_all_lower, first_corner, second_corner, third_corner}
+use Rattle.rings.proofs.Turning.{upper_once, upper_decided}
+use Rattle.cone_points.proofs.Directions.{no_upper_round, no_lower_round, lower_of, not_all_upper, not_all_lower, first_corner, second_corner, third_corner}
 use Rattle.cone_points.proofs.Rounds.{often_sum, triangles, previous_inside, turned_inside, often_inside, returns_to}
 use Rattle.cone_points.proofs.Numbers.{clash}
 
@@ -58,7 +59,7 @@ module _ (d : ℕ) (halves : List Half) (valid : IsTriangulation d halves) (numb
   vector_turned h l = (valid.paired (previous_of h) (previous_inside d halves valid h l)).2
 
   -- it turns to the left
-  left : (h : ℕ) → h < length halves → IsPositive d (det (quad_ops d) (vector_at halves h) (vector_at halves (turned halves h)))
+  pub left : (h : ℕ) → h < length halves → IsPositive d (det (quad_ops d) (vector_at halves h) (vector_at halves (turned halves h)))
   left h l = subst (λ v. IsPositive d (det (quad_ops d) (vector_at halves h) v)) (sym (vector_turned h l)) (left_of_previous h l)
 
   lower_at : (h : ℕ) → h < length halves → ¬ (IsUpper d (vector_at halves h)) → IsUpper d (opposite_vector (quad_ops d) (vector_at halves h))

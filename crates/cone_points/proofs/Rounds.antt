@@ -4,7 +4,7 @@ use Rattle.tri_core.specs.declared.half.Half.{Half}
 use Rattle.tri_core.specs.HalfEdges.{twin_at, previous_of}
 use Rattle.tri_core.specs.Triangulation.{IsTriangulation}
 use Rattle.cone_points.specs.Vertices.{turned, turned_often, StartsWith}
-use Rattle.cone_points.proofs.Searches.{Repeats, repeats}
+use Rattle.rings.proofs.Pigeonhole.{Repeats, repeats}
 
 -- turning first, and then often
 pub often_first : (halves : List Half) (q k : ℕ) → turned_often halves (suc q) k ≡ turned_often halves q (turned halves k)

@@ -3,7 +3,7 @@ use Rattle.std.proofs.Common.{◌≡◌, ℕ, zero, suc, ◌-◌, ◌<◌, ◌�
 use Rattle.std.specs.Prelude.{◌⊎◌, ◌↔◌}
 use mathlib.Core.Logic.{inl, inr}
 use Rattle.std.proofs.lemmas.Bool.{cases_eq}
-use Rattle.cone_points.proofs.Searches.{first_below}
+use Rattle.rings.proofs.Pigeonhole.{first_below}
 use Rattle.cone_points.proofs.Orbits.{IsPermutation, often, Reaches, IsLeast, reaches_trans, often_below, often_sum, reaches_sym, Period, period, Leader, leader}
 
 -- g is f, and then a and b exchanged

@@ -5,7 +5,7 @@ use Rattle.tri_core.specs.Triangulation.{IsTriangle}
 use Rattle.tri_core.specs.Flips.{IsEdge}
 use Rattle.cone_points.specs.Vertices.{IsVertex, IsTurns, IsListOf, IsNumberOf}
 
--- no number is greater than the next
+-- the numbers ascend: none is greater than a later one
 abbrev pub IsAscending : List ℕ → Type 0
 IsAscending list = (i j : ℕ) → i < j → j < length list → get_or list i 0 ≤ get_or list j 0
 
@@ -17,7 +17,7 @@ pub record AreTurns (d : ℕ) (halves : List Half) (turns : List ℕ) : Type 0 w
   pub each : (i : ℕ) → i < length turns → IsTurns d halves (get_or vertices i 0) (get_or turns i 0)
   pub ascending : IsAscending turns
 
--- the genus g of a surface of V vertices, E edges and F triangles: V - E + F = 2 - 2g
+-- the genus g of a surface of V vertices, E edges and F triangles, by Euler's formula: V - E + F = 2 - 2g
 pub record IsGenus (halves : List Half) (genus : ℕ) : Type 0 where
   pub V : ℕ
   pub E : ℕ

@@ -1,6 +1,9 @@
 -- The vertices of a triangulation, and how often each is turned round.
-use Rattle.std.specs.Prelude.{◌≡◌, ◌↔◌, ℕ, zero, suc, ◌<◌, ◌≤◌, List, length, get_or, Contains}
+use Rattle.std.specs.Prelude.{◌≡◌, ◌↔◌, ℕ, zero, suc, pos, ◌<◌, ◌≤◌, List, length, get_or, Contains}
+use Rattle.quad_field.specs.Quads.{quad_ops, IsPositive}
+use Rattle.quad_field.specs.declared.quad.Quad.{Quad}
 use Rattle.plane.specs.Halves.{IsUpper}
+use Rattle.plane.specs.Vectors.{Vector, det}
 use Rattle.tri_core.specs.declared.half.Half.{Half}
 use Rattle.tri_core.specs.HalfEdges.{vector_at, twin_at, previous_of}
 
@@ -21,9 +24,18 @@ StartsWith halves h k = (n : ℕ) × (turned_often halves n h ≡ k)
 abbrev pub IsVertex : List Half → ℕ → Type 0
 IsVertex halves v = (v < length halves) × ((k : ℕ) → StartsWith halves v k → v ≤ k)
 
--- from half-edge h to the next about its starting point the half changes from lower to upper: the direction (1, 0) lies between them
+-- from half-edge h to the next about its starting point the half changes from lower to upper: so the direction (1, 0) is passed
 abbrev pub Rises : ℕ → List Half → ℕ → Type 0
 Rises d halves h = ¬ (IsUpper d (vector_at halves h)) × IsUpper d (vector_at halves (turned halves h))
+
+-- from half-edge h to the next about its starting point the direction w is passed: w lies to the left of h, and no longer to the left of the next
+abbrev pub Passes : ℕ → List Half → Vector Quad → ℕ → Type 0
+Passes d halves w h =
+    IsPositive d (det (quad_ops d) (vector_at halves h) w) × ¬ (IsPositive d (det (quad_ops d) (vector_at halves (turned halves h)) w))
+
+-- the direction (1, 0)
+abbrev pub first_axis : ℕ → Vector Quad
+first_axis d = ((quad_ops d).int (pos 1), (quad_ops d).int (pos 0))
 
 -- a list without repetition
 abbrev pub IsDistinct : List ℕ → Type 0

@@ -1,4 +1,4 @@
--- Walks about vertices: which half-edges are upper, which are marked, and how many of those rise.
+-- For private contracts alone: walks about vertices, which half-edges are upper, which are marked, and how many of those rise.
 use Rattle.std.specs.Prelude.{◌≡◌, ◌↔◌, ℕ, zero, suc, ◌+◌, ◌<◌, ◌≤◌, Bool, false, not, ◌&&◌, cond, IsTrue, List, length, get_or}
 use Rattle.tri_core.specs.declared.half.Half.{Half}
 use Rattle.tri_core.specs.HalfEdges.{vector_at}

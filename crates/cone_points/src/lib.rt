@@ -4,6 +4,7 @@
 
 mod cones;
 mod halves;
+pub mod laws;
 #[cfg(test)]
 mod tests;
 mod walks;

@@ -1,9 +1,14 @@
-use Rattle.std.proofs.Common.{◌≡◌, ℕ, [], false, replicate, length, sym, subst, ◌∙◌, arith}
+use Rattle.std.proofs.Common.{◌≡◌, ℕ, zero, suc, [], false, replicate, length, get_or, refl, sym, subst, ◌∙◌, arith}
 use Rattle.std.proofs.lemmas.List.{length-replicate}
-use Rattle.cone_points.proofs.Searches.{unmarked_all}
 use Rattle.cone_points.specs.Walks.{IsRound}
 use Rattle.cone_points.proofs.Visits.{round_none, round_all}
 use Rattle.cone_points.proofs.walks.all_turns.Goals as goal
+
+-- No mark stands in a list of marks that aren't made.
+unmarked_all : (n t : ℕ) → get_or (replicate n false) t false ≡ false
+unmarked_all zero t = refl
+unmarked_all (suc n) zero = refl
+unmarked_all (suc n) (suc t) = unmarked_all n t
 
 pub loop-h-init : goal.loop-h-init
 loop-h-init c =
