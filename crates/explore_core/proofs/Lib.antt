@@ -1,0 +1,14 @@
+pub mod CallerLemmas
+pub mod Searches
+pub mod EmptySlots
+pub mod Sound
+pub mod Elements
+pub mod Closed
+pub mod RecordRows
+pub mod Outs
+pub mod Known
+pub mod Refused
+pub mod MetAndFilled
+pub mod Taken
+pub mod TakenLeads
+pub mod Graphed

@@ -1,0 +1,9 @@
+pub mod Books
+pub mod Events
+pub mod Refusals
+pub mod Index
+pub mod Records
+pub mod Places
+pub mod Ranks
+pub mod Graphs
+pub mod Views
