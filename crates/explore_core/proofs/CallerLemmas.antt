@@ -17,7 +17,6 @@ use Rattle.terrain.proofs.CallerLemmas.{at_one, at_within, at_snoc, snoc_left, s
 use Rattle.explore_core.specs.Books.{Slot, Row, HasKey, empty_row, empties, out}
 use Rattle.explore_core.specs.Events.{Ticket, Adds, Meets, Fills, FillsSlot, with_slot}
 
-
 pub listed_at : (xs : List ℕ) (a : ℕ) → lists xs a ≡ true → (i : ℕ) × IsAt xs i a
 listed_at [] a e = cc
 listed_at (x ∷ xs) a e = dite (ℕ_discrete x a) (λ (s : x ≡ a). (0, ap Some s)) (λ (n : x ≢ a). let r = listed_at xs a (grind (arith, nat_tests)) in (suc r.0, r.1))
@@ -118,12 +117,14 @@ module _ {L : Type 0} (Walls : List ℤ → ℕ → Type 0) (Leads : List ℤ �
       let slot : Slot L = record { target = t.target; link = t.link } in
       let row = with_slot t.from.row w (record { target = t.target; link = t.link }) in
       subst (λ (l : List (Row L)). (q : Row L) × IsAt l i q × (length q.slots ≡ length r.slots) × ((v : ℕ) (s : Slot L) → IsAt r.slots v (Some s) → IsAt q.slots v (Some s))) (sym f.2) (dite (ℕ_discrete i t.from.place)
-          (λ (e : i ≡ t.from.place).
-              let same : t.from.row ≡ r = at_one before t.from.place t.from.row r t.from.at (subst (λ (j : ℕ). IsAt before j r) e at) in
-              (row, subst (λ (j : ℕ). IsAt (set before t.from.place row) j row) (sym e) (set_here before t.from.place t.from.row row t.from.at),
-                length-set t.from.row.slots w (Some slot) ∙ ap (λ (x : Row L). length x.slots) same,
-                λ v s full. let was = subst (λ (x : Row L). IsAt x.slots v (Some s)) (sym same) full in set_else t.from.row.slots w v (Some slot) (Some s) (λ m. never s (at_one t.from.row.slots w None (Some s) t.empty (subst (λ (j : ℕ). IsAt t.from.row.slots j (Some s)) m was))) was))
-          (λ (ne : i ≢ t.from.place). (r, set_else before t.from.place i row r ne at, refl, λ v s full. full)))
+      (λ (e : i ≡ t.from.place).
+      let same : t.from.row ≡ r = at_one before t.from.place t.from.row r t.from.at (subst (λ (j : ℕ). IsAt before j r) e at) in (
+        row,
+        subst (λ (j : ℕ). IsAt (set before t.from.place row) j row) (sym e) (set_here before t.from.place t.from.row row t.from.at),
+        length-set t.from.row.slots w (Some slot) ∙ ap (λ (x : Row L). length x.slots) same,
+        λ v s full. let was = subst (λ (x : Row L). IsAt x.slots v (Some s)) (sym same) full in set_else t.from.row.slots w v (Some slot) (Some s) (λ m. never s (at_one t.from.row.slots w None (Some s) t.empty (subst (λ (j : ℕ). IsAt t.from.row.slots j (Some s)) m was))) was,
+      ))
+      (λ (ne : i ≢ t.from.place). (r, set_else before t.from.place i row r ne at, refl, λ v s full. full)))
     where
       never : (s : Slot L) → None ≡ Some s → ⊥
       never s e = cc

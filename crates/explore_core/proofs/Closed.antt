@@ -107,6 +107,7 @@ module _ (order : List ℤ → List ℤ → Ordering) (total : IsTotalOrder orde
           there c =
               let h = row_of_key rows k c in
               ∥∥₁_elim sound ∥∥₁_prop (λ (s : IsSound Walls Leads root rows). subst (IsReached Walls Leads root) h.is (s.reached h.place h.row h.at))
+
           back : IsReached Walls Leads root k → Contains (keys_of rows) k
           back reached = contains (keys_of rows) k (∥∥₁_elim sound (Coded-set coded_bool _ _) (λ (s : IsSound Walls Leads root rows). ∥∥₁_elim reached (Coded-set coded_bool _ _) (λ (p : Path (LeadsTo Walls Leads) root k). has_key rows k (in_book s p))))
 

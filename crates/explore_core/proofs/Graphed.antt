@@ -35,6 +35,7 @@ each_once order total keys places index = record {
   where
     less : (o : Ordering) → o ≡ Less → o ≡ Equal → ⊥
     less o a b = cc
+
     equal : (i j : ℕ) → (i < j → ⊥) → (j < i → ⊥) → i ≡ j
     equal zero zero a b = refl
     equal zero (suc j) a b = absurd (a (omega arith))
@@ -108,9 +109,10 @@ module _ {K L : Type 0} (numbers : K → List ℤ) (order : List ℤ → List �
         index.ascends i j b.0.place c.0.place x y h b.0.listed c.0.listed (key_at_place b.0.place b.0.found b.0.at ∙ ap Some b.1) (key_at_place c.0.place c.0.found c.0.at ∙ ap Some c.1)
 
     same_keys : (k : List ℤ) → (Contains (map numbers ks) k) ↔ (Contains (keys_of (rows_from numbers records)) k)
-    same_keys k =
-        ((λ (c : Contains (map numbers ks) k). let i = at_contained (map numbers ks) k c in let b = found_of i.0 k i.1 in contains_at (keys_of (rows_from numbers records)) b.0.place k (key_at_place b.0.place b.0.found b.0.at ∙ ap Some b.1)),
-          (λ (c : Contains (keys_of (rows_from numbers records)) k). let i = at_contained (keys_of (rows_from numbers records)) k c in let r = rank_of_key i.0 k i.1 in contains_at (map numbers ks) r.0 k r.2))
+    same_keys k = (
+      (λ (c : Contains (map numbers ks) k). let i = at_contained (map numbers ks) k c in let b = found_of i.0 k i.1 in contains_at (keys_of (rows_from numbers records)) b.0.place k (key_at_place b.0.place b.0.found b.0.at ∙ ap Some b.1)),
+      (λ (c : Contains (keys_of (rows_from numbers records)) k). let i = at_contained (keys_of (rows_from numbers records)) k c in let r = rank_of_key i.0 k i.1 in contains_at (map numbers ks) r.0 k r.2),
+    )
 
     slots : (i : ℕ) (k : List ℤ) (row : List (Lead L)) → IsAt (map numbers ks) i k → IsAt lists i row → (from : HasKey (rows_from numbers records) k) × AreLeads (map numbers ks) from.row row
     slots i k row at there =
@@ -119,15 +121,18 @@ module _ {K L : Type 0} (numbers : K → List ℤ) (order : List ℤ → List �
         let e = each i r b.0.sorted in
         let same : e.0 ≡ row = at_one lists i e.0 row e.1 there in
         let lead : (w : ℕ) (l : Lead L) → IsAt e.0 w l → (s : Slot L) × IsAt (row_of numbers r).slots w (Some s) × IsAt (map numbers ks) l.to s.target × (l.link ≡ s.link) = λ w l lat.
-            let f = filled_slot b.0.place w r b.0.at (let h = at_within e.0 w l lat in let q = e.2.long in omega arith) in
-            let j = rank_of_key f.0.place (numbers f.0.target.value) (placed b.0.place w r f.0 b.0.at f.1) in
-            let rank : slice_index ranks f.0.place ≡ j.0 = get_or_from_slice_get ranks f.0.place j.0 0 j.1 in
-            let is_lead : ranked ranks f.0 ≡ l = at_one e.0 w (ranked ranks f.0) l (e.2.each w f.0 f.1) lat in
-            (slot_of numbers f.0, some_shown (slot_of numbers) r.slots.items w f.0 f.1,
-              subst (λ (n : ℕ). IsAt (map numbers ks) n (numbers f.0.target.value)) (sym rank ∙ ap (λ (x : Lead L). x.to) is_lead) j.2,
-              sym (ap (λ (x : Lead L). x.link) is_lead)) in
-        (record { place = b.0.place; row = row_of numbers r; at = row_at b.0.place r b.0.at; is = b.1 },
-          subst (λ (q : List (Lead L)). AreLeads (map numbers ks) (row_of numbers r) q) same (e.2.long ∙ sym (length-map r.slots.items (option_map (slot_of numbers))), lead))
+        let f = filled_slot b.0.place w r b.0.at (let h = at_within e.0 w l lat in let q = e.2.long in omega arith) in
+        let j = rank_of_key f.0.place (numbers f.0.target.value) (placed b.0.place w r f.0 b.0.at f.1) in
+        let rank : slice_index ranks f.0.place ≡ j.0 = get_or_from_slice_get ranks f.0.place j.0 0 j.1 in
+        let is_lead : ranked ranks f.0 ≡ l = at_one e.0 w (ranked ranks f.0) l (e.2.each w f.0 f.1) lat in (
+          slot_of numbers f.0,
+          some_shown (slot_of numbers) r.slots.items w f.0 f.1,
+          subst (λ (n : ℕ). IsAt (map numbers ks) n (numbers f.0.target.value)) (sym rank ∙ ap (λ (x : Lead L). x.to) is_lead) j.2,
+          sym (ap (λ (x : Lead L). x.link) is_lead),
+        ) in (
+          record { place = b.0.place; row = row_of numbers r; at = row_at b.0.place r b.0.at; is = b.1 },
+          subst (λ (q : List (Lead L)). AreLeads (map numbers ks) (row_of numbers r) q) same (e.2.long ∙ sym (length-map r.slots.items (option_map (slot_of numbers))), lead),
+        )
 
     pub graph_of : (place : ℕ) → IsAt ranks 0 place → IsGraphOf order (rows_from numbers records) (map numbers ks) lists place
     graph_of place at = record {

@@ -15,8 +15,10 @@ module _ {L : Type 0} (Walls : List ℤ → ℕ → Type 0) (Leads : List ℤ �
     where
       stays : IsAt met place r
       stays = added_at Walls before met d added place r at
+
       row : q ≡ r
       row = at_one met place q r at' stays
+
       target : e ≡ d
       target = at_one (keys_of met) to e d there' there
 

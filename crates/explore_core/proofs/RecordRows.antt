@@ -68,6 +68,7 @@ module _ {K L : Type 0} (numbers : K → List ℤ) where
       where
         new_slots : map (option_map (slot_of numbers)) s.slots.items ≡ set (map (option_map (slot_of numbers)) r.slots.items) w (Some (slot_of numbers f))
         new_slots = ap (map (option_map (slot_of numbers))) slots ∙ map_set (option_map (slot_of numbers)) r.slots.items w (Some f)
+
         shown : row_of numbers s ≡ with_slot (row_of numbers r) w (slot_of numbers f)
         shown = λ j. record { key = numbers (key j); slots = new_slots j }
 
@@ -77,8 +78,8 @@ module _ {K L : Type 0} (numbers : K → List ℤ) where
     pub placed-written : IsAt records i r → IsAt (keys_of (rows_from numbers records)) f.place (numbers f.target.value) → ArePlaced numbers records → ArePlaced numbers (set records i s)
     placed-written stands there placed j v q g there' full = subst (λ (l : List (List ℤ)). IsAt l g.place (numbers g.target.value)) (sym keys-written) (⊎_elim
         (λ (e : (j ≡ i) × (s ≡ q)). ⊎_elim
-            (λ (m : (v ≡ w) × (Some f ≡ Some g)). let same : f ≡ g = cc in subst (λ (x : Filled K L). IsAt (keys_of (rows_from numbers records)) x.place (numbers x.target.value)) same there)
-            (λ (m : (v ≢ w) × IsAt r.slots.items v (Some g)). placed i v r g stands m.1)
-            (at_set r.slots.items w v (Some f) (Some g) (subst (λ (l : List (Option (Filled K L))). IsAt l v (Some g)) slots (subst (λ (x : Record K L). IsAt x.slots.items v (Some g)) (sym e.1) full))))
+        (λ (m : (v ≡ w) × (Some f ≡ Some g)). let same : f ≡ g = cc in subst (λ (x : Filled K L). IsAt (keys_of (rows_from numbers records)) x.place (numbers x.target.value)) same there)
+        (λ (m : (v ≢ w) × IsAt r.slots.items v (Some g)). placed i v r g stands m.1)
+        (at_set r.slots.items w v (Some f) (Some g) (subst (λ (l : List (Option (Filled K L))). IsAt l v (Some g)) slots (subst (λ (x : Record K L). IsAt x.slots.items v (Some g)) (sym e.1) full))))
         (λ (e : (j ≢ i) × IsAt records j q). placed j v q g e.1 full)
         (at_set records i j s q there'))

@@ -16,7 +16,6 @@ use Rattle.explore_core.specs.Index.{IsIndex, IsGap}
 use Rattle.explore_core.proofs.CallerLemmas.{listed_at}
 use Rattle.terrain.proofs.CallerLemmas.{at_one, at_within, at_snoc, snoc_left, snoc_end}
 
-
 module _ (order : List ℤ → List ℤ → Ordering) (keys : List (List ℤ)) (places : List ℕ) (k : List ℤ) where
   -- what is known of the key when it is sought from low to high
   pub record Between (low high : ℕ) : Type 0 where
@@ -64,4 +63,3 @@ gap_at order keys places k low high b h = record {
   below = b.below;
   above = λ j a p i. let o = b.ordered in b.above j a p (omega arith);
 }
-

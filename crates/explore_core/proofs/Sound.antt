@@ -51,13 +51,13 @@ module _ {L : Type 0} (Walls : List ℤ → ℕ → Type 0) (Leads : List ℤ �
     reached = λ i r at. ⊎_elim (λ (was : IsAt rows i r). s.reached i r was) (λ (e : (i ≡ length rows) × (empty_row d n ≡ r)). subst (λ (x : Row L). IsReached Walls Leads root x.key) e.1 reached) (at_snoc rows i (empty_row d n) r at);
     once = λ i j p q at at' same. ⊎_elim
         (λ (was : IsAt rows i p). ⊎_elim
-            (λ (was' : IsAt rows j q). s.once i j p q was was' same)
-            (λ (e : (j ≡ length rows) × (empty_row d n ≡ q)). absurd (fresh (record { place = i; row = p; at = was; is = same ∙ sym (ap (λ (x : Row L). x.key) e.1) })))
-            (at_snoc rows j (empty_row d n) q at'))
+        (λ (was' : IsAt rows j q). s.once i j p q was was' same)
+        (λ (e : (j ≡ length rows) × (empty_row d n ≡ q)). absurd (fresh (record { place = i; row = p; at = was; is = same ∙ sym (ap (λ (x : Row L). x.key) e.1) })))
+        (at_snoc rows j (empty_row d n) q at'))
         (λ (e : (i ≡ length rows) × (empty_row d n ≡ p)). ⊎_elim
-            (λ (was' : IsAt rows j q). absurd (fresh (record { place = j; row = q; at = was'; is = sym same ∙ sym (ap (λ (x : Row L). x.key) e.1) })))
-            (λ (e' : (j ≡ length rows) × (empty_row d n ≡ q)). e.0 ∙ sym e'.0)
-            (at_snoc rows j (empty_row d n) q at'))
+        (λ (was' : IsAt rows j q). absurd (fresh (record { place = j; row = q; at = was'; is = sym same ∙ sym (ap (λ (x : Row L). x.key) e.1) })))
+        (λ (e' : (j ≡ length rows) × (empty_row d n ≡ q)). e.0 ∙ sym e'.0)
+        (at_snoc rows j (empty_row d n) q at'))
         (at_snoc rows i (empty_row d n) p at);
     walls = λ i r at. ⊎_elim (λ (was : IsAt rows i r). s.walls i r was) (λ (e : (i ≡ length rows) × (empty_row d n ≡ r)). subst (λ (x : Row L). Walls x.key (length x.slots)) e.1 (subst (Walls d) (sym (length-replicate n None)) has)) (at_snoc rows i (empty_row d n) r at);
     leads = λ i w r f at full. ⊎_elim (λ (was : IsAt rows i r). s.leads i w r f was full) (λ (e : (i ≡ length rows) × (empty_row d n ≡ r)). absurd (never w r f e.1 full)) (at_snoc rows i (empty_row d n) r at);
@@ -66,6 +66,7 @@ module _ {L : Type 0} (Walls : List ℤ → ℕ → Type 0) (Leads : List ℤ �
     where
       never : (w : ℕ) (r : Row L) (f : Slot L) → empty_row d n ≡ r → IsAt r.slots w (Some f) → ⊥
       never w r f e full = none_filled n w f (subst (λ (x : Row L). IsAt x.slots w (Some f)) (sym e) full)
+
       further : {k : List ℤ} → HasKey rows k → HasKey (rows ++ empty_row d n ∷ []) k
       further h = record { place = h.place; row = h.row; at = snoc_left rows h.place (empty_row d n) h.row h.at; is = h.is }
 
@@ -92,16 +93,16 @@ module _ {L : Type 0} (Walls : List ℤ → ℕ → Type 0) (Leads : List ℤ �
       walls = λ i x e. ⊎_elim (λ (h : (i ≡ at) × (with_slot r w s ≡ x)). subst (λ (y : Row L). Walls y.key (length y.slots)) h.1 (subst (Walls r.key) (sym (length-set r.slots w (Some s))) (sound.walls at r stands))) (λ (h : (i ≢ at) × IsAt rows i x). sound.walls i x h.1) (at_set rows at i (with_slot r w s) x e);
       leads = λ i v x f e full. ⊎_elim
           (λ (h : (i ≡ at) × (with_slot r w s ≡ x)). subst (λ (y : Row L). Leads y.key v f.target f.link) h.1 (⊎_elim
-              (λ (m : (v ≡ w) × (Some s ≡ Some f)). let same : s ≡ f = cc in subst (λ (y : Slot L). Leads r.key v y.target y.link) same (subst (λ (u : ℕ). Leads r.key u s.target s.link) (sym m.0) leads))
-              (λ (m : (v ≢ w) × IsAt r.slots v (Some f)). sound.leads at v r f stands m.1)
-              (slot_was v x f h.1 full)))
+          (λ (m : (v ≡ w) × (Some s ≡ Some f)). let same : s ≡ f = cc in subst (λ (y : Slot L). Leads r.key v y.target y.link) same (subst (λ (u : ℕ). Leads r.key u s.target s.link) (sym m.0) leads))
+          (λ (m : (v ≢ w) × IsAt r.slots v (Some f)). sound.leads at v r f stands m.1)
+          (slot_was v x f h.1 full)))
           (λ (h : (i ≢ at) × IsAt rows i x). sound.leads i v x f h.1 full)
           (at_set rows at i (with_slot r w s) x e);
       targets = λ i v x f e full. key_after (⊎_elim
           (λ (h : (i ≡ at) × (with_slot r w s ≡ x)). ⊎_elim
-              (λ (m : (v ≡ w) × (Some s ≡ Some f)). let same : s ≡ f = cc in subst (λ (y : Slot L). HasKey rows y.target) same there)
-              (λ (m : (v ≢ w) × IsAt r.slots v (Some f)). sound.targets at v r f stands m.1)
-              (slot_was v x f h.1 full))
+          (λ (m : (v ≡ w) × (Some s ≡ Some f)). let same : s ≡ f = cc in subst (λ (y : Slot L). HasKey rows y.target) same there)
+          (λ (m : (v ≢ w) × IsAt r.slots v (Some f)). sound.targets at v r f stands m.1)
+          (slot_was v x f h.1 full))
           (λ (h : (i ≢ at) × IsAt rows i x). sound.targets i v x f h.1 full)
           (at_set rows at i (with_slot r w s) x e));
     }
@@ -136,8 +137,10 @@ module _ {L : Type 0} (Walls : List ℤ → ℕ → Type 0) (Leads : List ℤ �
       one : (P : Row L → Type 0) (i : ℕ) (r : Row L) → IsAt (empty_row root n ∷ []) i r → P (empty_row root n) → P r
       one P zero r at h = let e : empty_row root n ≡ r = cc in subst P e h
       one P (suc i) r at h = cc
+
       zero_at : (i : ℕ) (r : Row L) → IsAt (empty_row root n ∷ []) i r → i ≡ 0
       zero_at zero r at = refl
       zero_at (suc i) r at = cc
+
       never : (i w : ℕ) (r : Row L) (f : Slot L) → IsAt (empty_row root n ∷ []) i r → IsAt r.slots w (Some f) → ⊥
       never i w r f at full = none_filled n w f (one (λ (q : Row L). IsAt q.slots w (Some f) → IsAt (replicate {A = Option (Slot L)} n None) w (Some f)) i r at (λ x. x) full)

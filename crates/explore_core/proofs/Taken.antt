@@ -23,9 +23,9 @@ module _ {X : Type 0} (items : List X) (places : List ℕ) (n : ℕ) (p : ArePla
   pub done_more : (y : X) (o : Option X) → o ≡ get_or left (get_or places k 0) o → o ≡ Some y → (i a : ℕ) (x : X) → i < k + 1 → IsAt places i a → IsAt items a x → IsAt (ordered ++ y ∷ []) i x
   done_more y o is some i a x h at item = dite (ℕ_discrete i k)
       (λ (e : i ≡ k).
-          let a_is : get_or places k 0 ≡ a = at_one places k (get_or places k 0) a here (subst (λ (j : ℕ). IsAt places j a) e at) in
-          let f = get_or_from_slice_get left (get_or places k 0) (Some x) o (subst (λ (b : ℕ). IsAt left b (Some x)) (sym a_is) (kept i a x (omega arith) at item)) in
-          let same : Some y ≡ Some x = sym some ∙ is ∙ f in
-          let yx : y ≡ x = cc in
-          subst (λ (j : ℕ). IsAt (ordered ++ y ∷ []) j x) (len ∙ sym e) (subst (λ (z : X). IsAt (ordered ++ y ∷ []) (length ordered) z) yx (snoc_end ordered y)))
+      let a_is : get_or places k 0 ≡ a = at_one places k (get_or places k 0) a here (subst (λ (j : ℕ). IsAt places j a) e at) in
+      let f = get_or_from_slice_get left (get_or places k 0) (Some x) o (subst (λ (b : ℕ). IsAt left b (Some x)) (sym a_is) (kept i a x (omega arith) at item)) in
+      let same : Some y ≡ Some x = sym some ∙ is ∙ f in
+      let yx : y ≡ x = cc in
+      subst (λ (j : ℕ). IsAt (ordered ++ y ∷ []) j x) (len ∙ sym e) (subst (λ (z : X). IsAt (ordered ++ y ∷ []) (length ordered) z) yx (snoc_end ordered y)))
       (λ (ne : i ≢ k). snoc_left ordered i y x (done i a x (omega arith) at item))

@@ -23,9 +23,9 @@ module _ {K L : Type 0} (ranks : List ℕ) (all slots : List (Option (Filled K L
   pub each_on : (y : Filled K L) → IsAt all k (Some y) → (w : ℕ) (x : Filled K L) → w < k + 1 → IsAt all w (Some x) → IsAt (leads ++ ranked ranks y ∷ []) w (ranked ranks x)
   each_on y here w x h at = dite (ℕ_discrete w k)
       (λ (e : w ≡ k).
-          let same : Some y ≡ Some x = at_one all k (Some y) (Some x) here (subst (λ (j : ℕ). IsAt all j (Some x)) e at) in
-          let yx : y ≡ x = cc in
-          subst (λ (j : ℕ). IsAt (leads ++ ranked ranks y ∷ []) j (ranked ranks x)) (len ∙ sym e) (subst (λ (z : Filled K L). IsAt (leads ++ ranked ranks y ∷ []) (length leads) (ranked ranks z)) yx (snoc_end leads (ranked ranks y))))
+      let same : Some y ≡ Some x = at_one all k (Some y) (Some x) here (subst (λ (j : ℕ). IsAt all j (Some x)) e at) in
+      let yx : y ≡ x = cc in
+      subst (λ (j : ℕ). IsAt (leads ++ ranked ranks y ∷ []) j (ranked ranks x)) (len ∙ sym e) (subst (λ (z : Filled K L). IsAt (leads ++ ranked ranks y ∷ []) (length leads) (ranked ranks z)) yx (snoc_end leads (ranked ranks y))))
       (λ (ne : w ≢ k). snoc_left leads w (ranked ranks y) (ranked ranks x) (each w x (omega arith) at))
 
 -- what stands at a place that nothing has touched

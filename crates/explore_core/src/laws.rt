@@ -15,5 +15,4 @@ pub fn complete_schedules_agree<T: Terrain>()
     // After a complete one the keys are exactly the reached ones.
     ensures closed { (t root : List ℤ) (events : List (Event T.Key)) (rows : List (Row T.Link)) → IsSchedule T.Key.numbers (T.has_walls t) (T.leads t) root events rows → out rows ≡ 0 → AreReached (T.has_walls t) (T.leads t) root (keys_of rows) }
     ensures agree { (t root : List ℤ) (events others : List (Event T.Key)) (rows ends : List (Row T.Link)) → IsSchedule T.Key.numbers (T.has_walls t) (T.leads t) root events rows → IsSchedule T.Key.numbers (T.has_walls t) (T.leads t) root others ends → out rows ≡ 0 → out ends ≡ 0 → (row : Row T.Link) → (Contains rows row) ↔ (Contains ends row) }
-{
-}
+{}

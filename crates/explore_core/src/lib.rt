@@ -13,6 +13,8 @@ mod search;
 mod slots;
 mod spot;
 mod steps;
+#[cfg(test)]
+mod tests;
 
 pub use book::Book;
 pub use event::{Event, StepFault};

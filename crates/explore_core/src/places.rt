@@ -72,7 +72,13 @@ impl<T: Terrain> Book<T> {
     }
 
     /// Adds a reached key that isn't there, with its empty slots.
-    fn add(&mut self, alloc: Global, key: T::Key, walls: u32, index: usize) -> Result<(), AllocError>
+    fn add(
+        &mut self,
+        alloc: Global,
+        key: T::Key,
+        walls: u32,
+        index: usize,
+    ) -> Result<(), AllocError>
         requires room { length (rows_of self.old) + 1 < 2 ^ 32 }
         requires reached { IsReached (walls_in self.old) (leads_in self.old) (root_of self.old) (T.Key.numbers key) }
         requires walls { walls_in self.old (T.Key.numbers key) walls }

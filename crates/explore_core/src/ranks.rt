@@ -57,11 +57,13 @@ pub(crate) fn leads_of<K, L: Drop>(
 {
     let mut leads = Vec::with_capacity(alloc, slots.len())?;
     for wall in 0..slots.len() {
-        let Some(Filled {
-            target: _,
-            place,
-            link,
-        }) = slots[wall].take()
+        let Some(
+            Filled {
+                target: _,
+                place,
+                link,
+            },
+        ) = slots[wall].take()
         else {
             unreachable!()
         };

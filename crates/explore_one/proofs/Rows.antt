@@ -26,10 +26,14 @@ module _ {L : Type 0} where
   -- one slot more is filled
   pub filled_more : (b c : List (Row L)) (place n w : ℕ) → IsFilledBelow b place n w → Keeps b c → IsFilled c place w → IsFilledBelow c place n (w + 1)
   filled_more b c place n w row keeps filled =
-      let q = keeps place row.0 row.1 in
-      (q.0, q.1, q.2 ∙ row.2, λ v h. dite (ℕ_discrete v w)
-          (λ (e : v ≡ w). (filled.1, subst (λ (j : ℕ). IsAt q.0.slots j (Some filled.1)) (sym e) (subst (λ (r : Row L). IsAt r.slots w (Some filled.1)) (at_one c place filled.0 q.0 filled.2 q.1) filled.3)))
-          (λ (ne : v ≢ w). let f = row.3 v (omega arith) in (f.0, q.3 v f.0 f.1)))
+      let q = keeps place row.0 row.1 in (
+        q.0,
+        q.1,
+        q.2 ∙ row.2,
+        λ v h. dite (ℕ_discrete v w)
+            (λ (e : v ≡ w). (filled.1, subst (λ (j : ℕ). IsAt q.0.slots j (Some filled.1)) (sym e) (subst (λ (r : Row L). IsAt r.slots w (Some filled.1)) (at_one c place filled.0 q.0 filled.2 q.1) filled.3)))
+            (λ (ne : v ≢ w). let f = row.3 v (omega arith) in (f.0, q.3 v f.0 f.1)),
+      )
 
   pub full_at : (rows : List (Row L)) (place n w : ℕ) → IsFilledBelow rows place n w → n ≤ w → IsFullAt rows place
   full_at rows place n w row h r at v within = subst (λ (q : Row L). v < length q.slots → (s : Slot L) × IsAt q.slots v (Some s)) (at_one rows place row.0 r row.1 at) (λ k. row.3 v (let e = row.2 in omega arith)) within

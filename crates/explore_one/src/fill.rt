@@ -76,7 +76,7 @@ pub(crate) fn filled_book<T: Terrain>(
     ensures fault { (key : T.Key) (fault : T.Fault) → result ≡ Err (ExploreFault.Fault key fault) → IsStuckWithin (T.has_walls (T.numbers terrain.now)) (T.leads (T.numbers terrain.now)) (T.is_stuck (T.numbers terrain.now)) (T.is_stuck_at (T.numbers terrain.now)) (T.Key.numbers root.now) (T.Key.numbers key) fault }
 {
     let mut book = root_book(alloc, terrain, root)?;
-    if book.size() > limit {
+    if limit < book.size() {
         return Err(ExploreFault::Limit);
     }
     let mut place = 0;

@@ -39,7 +39,9 @@ impl Numbers for Ring {
 
 impl Terrain for Ring {
     type Key = u32;
+
     type Link = u32;
+
     type Fault = Stuck;
 
     ghost use Rattle.std.specs.Prelude.{◌≡◌};

@@ -10,7 +10,9 @@ use std::marker::{Send, Sync};
 /// What the keys, walls, leads, stuck keys, order and shards are is said of the lists for which the terrain and the keys stand, so that rules and logs hold plain lists. The first list of each meaning is the terrain's.
 pub trait Terrain: Numbers + Sync {
     type Key: Numbers + Send + Sync + Drop;
+
     type Link: Send + Drop;
+
     type Fault: Send + Sync + Drop;
 
     ghost use Rattle.std.specs.Prelude.{◌≡◌, ℕ, ◌<◌, ◌≤◌, ℤ, List, IfOk, IfErr};

@@ -23,6 +23,7 @@ returns-clause-agree g c t root events others rows ends schedule other none none
     let leads = g.T.Terrain.leads t in
     let numbers = g.T.Key.Numbers.numbers in
     let one = kept_all walls leads root numbers events _ rows (sound_root walls leads root schedule.0 schedule.1) schedule.2 in
-    let two = kept_all walls leads root numbers others _ ends (sound_root walls leads root other.0 other.1) other.2 in
-    (rows_agree walls leads (laws.walls_agree t) (laws.leads_agree t) root g.T.Terrain.order laws.order_total laws.order_exact rows ends one two none none' row,
-      rows_agree walls leads (laws.walls_agree t) (laws.leads_agree t) root g.T.Terrain.order laws.order_total laws.order_exact ends rows two one none' none row)
+    let two = kept_all walls leads root numbers others _ ends (sound_root walls leads root other.0 other.1) other.2 in (
+      rows_agree walls leads (laws.walls_agree t) (laws.leads_agree t) root g.T.Terrain.order laws.order_total laws.order_exact rows ends one two none none' row,
+      rows_agree walls leads (laws.walls_agree t) (laws.leads_agree t) root g.T.Terrain.order laws.order_total laws.order_exact ends rows two one none' none row,
+    )

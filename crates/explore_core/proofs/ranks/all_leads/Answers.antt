@@ -33,8 +33,11 @@ loop-rank-preserved g c =
       out = (let o = inv.out in let p = c.in_ok-push.ensures.len in omega arith);
       kept = λ i r h there. set_else c.loop-rank.records.items c.loop-rank.rank i _ r (λ e. absurd (omega arith)) (inv.kept i r (omega arith) there);
       each = λ i r h there. dite (ℕ_discrete i c.loop-rank.rank)
-          (λ (e : i ≡ c.loop-rank.rank). (c.in_ok-found.found.items, subst (λ (j : ℕ). IsAt (map (λ x. x.items) c.push.new.self.items) j c.in_ok-found.found.items) (sym e) (map_push_end (λ x. x.items) c.push.new.self.items c.loop-rank.leads.items c.in_ok-found.found c.loop-rank.rank c.in_ok-push.ensures.items size),
-              subst (λ (y : Record _ _). AreRanked c.args.ranks.now y.slots.items c.in_ok-found.found.items) (at_one all.items c.loop-rank.rank row r at (subst (λ (j : ℕ). IsAt all.items j r) e there)) c.in_ok-found.ensures))
+          (λ (e : i ≡ c.loop-rank.rank). (
+            c.in_ok-found.found.items,
+            subst (λ (j : ℕ). IsAt (map (λ x. x.items) c.push.new.self.items) j c.in_ok-found.found.items) (sym e) (map_push_end (λ x. x.items) c.push.new.self.items c.loop-rank.leads.items c.in_ok-found.found c.loop-rank.rank c.in_ok-push.ensures.items size),
+            subst (λ (y : Record _ _). AreRanked c.args.ranks.now y.slots.items c.in_ok-found.found.items) (at_one all.items c.loop-rank.rank row r at (subst (λ (j : ℕ). IsAt all.items j r) e there)) c.in_ok-found.ensures,
+          ))
           (λ (ne : i ≢ c.loop-rank.rank). let q = inv.each i r (omega arith) there in (q.0, map_push (λ x. x.items) c.push.new.self.items c.loop-rank.leads.items c.in_ok-found.found i q.0 c.in_ok-push.ensures.items q.1, q.2));
       keys = keys_kept c.loop-rank.records.items c.loop-rank.rank row _ (inv.kept c.loop-rank.rank row (omega arith) at) refl ∙ inv.keys;
     }

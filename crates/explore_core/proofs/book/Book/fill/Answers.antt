@@ -51,9 +51,11 @@ returns-clause-done g c =
     let to = c.in-Ok.ensures.found in
     let w = c.write.ensures.filled in
     let row = at_one rows c.in-Some.place w.0 c.in-Some.ensures.open.0 w.2 c.in-Some.ensures.open.1 in
-    let target = at_one (keys_of rows) c.in-Ok.to w.1 (numbers c.in_ok-key.key) w.3 to in
-    (ticket (g.T.Terrain.leads t) (g.T.Terrain.is_stuck_at t) (g.T.Terrain.is_stuck t) rows c.in-Some.place k c.args.wall c.in-Some.ensures.open (numbers c.in_ok-key.key) c.in_ok-key.link c.in_ok-key.ensures.lead, has_at_place rows c.in-Ok.to (numbers c.in_ok-key.key) to,
-      w.4 ∙ ap (λ (x : Row _ × List ℤ). slice_set rows c.in-Some.place (with_slot x.0 c.args.wall (record { target = x.1; link = c.in_ok-key.link }))) (λ i. (row i, target i)))
+    let target = at_one (keys_of rows) c.in-Ok.to w.1 (numbers c.in_ok-key.key) w.3 to in (
+      ticket (g.T.Terrain.leads t) (g.T.Terrain.is_stuck_at t) (g.T.Terrain.is_stuck t) rows c.in-Some.place k c.args.wall c.in-Some.ensures.open (numbers c.in_ok-key.key) c.in_ok-key.link c.in_ok-key.ensures.lead,
+      has_at_place rows c.in-Ok.to (numbers c.in_ok-key.key) to,
+      w.4 ∙ ap (λ (x : Row _ × List ℤ). slice_set rows c.in-Some.place (with_slot x.0 c.args.wall (record { target = x.1; link = c.in_ok-key.link }))) (λ i. (row i, target i)),
+    )
 
 pub returns-clause-no_ticket : goal.returns-clause-no_ticket
 returns-clause-no_ticket g c closed =

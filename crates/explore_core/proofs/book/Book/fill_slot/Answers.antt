@@ -40,9 +40,14 @@ write-requires-after_bounds g c κs within =
     let rows = rows_of c.args.self.now in
     let t = g.T.Numbers.numbers c.args.self.now.terrain.value in
     let s = c.is_filled.ensures.empty c.if-is_filled.false in
-    let lead = c.in_ok-key.ensures.lead in
-    (lead.0, numbers c.in_ok-key.key, added_at (g.T.Terrain.has_walls t) rows (rows_of c.put_or_fault.new.self) (numbers c.in_ok-key.key) c.in_ok-to.ensures.added c.args.place lead.0 lead.1, subst (λ (r : Row _). IsAt r.slots c.args.wall None) (at_one rows c.args.place s.0 lead.0 s.1 lead.1) s.2, c.in_ok-to.ensures.place,
-      subst (λ x. g.T.Terrain.leads x lead.0.key c.args.wall (numbers c.in_ok-key.key) c.in_ok-key.link) (sym c.in_ok-to.ensures.names.0) lead.2)
+    let lead = c.in_ok-key.ensures.lead in (
+      lead.0,
+      numbers c.in_ok-key.key,
+      added_at (g.T.Terrain.has_walls t) rows (rows_of c.put_or_fault.new.self) (numbers c.in_ok-key.key) c.in_ok-to.ensures.added c.args.place lead.0 lead.1,
+      subst (λ (r : Row _). IsAt r.slots c.args.wall None) (at_one rows c.args.place s.0 lead.0 s.1 lead.1) s.2,
+      c.in_ok-to.ensures.place,
+      subst (λ x. g.T.Terrain.leads x lead.0.key c.args.wall (numbers c.in_ok-key.key) c.in_ok-key.link) (sym c.in_ok-to.ensures.names.0) lead.2,
+    )
 
 pub returns-clause-done : goal.returns-clause-done
 returns-clause-done g c =
@@ -51,9 +56,11 @@ returns-clause-done g c =
     let t = g.T.Numbers.numbers c.args.self.now.terrain.value in
     let s = c.is_filled.ensures.empty c.if-is_filled.false in
     let lead = c.in_ok-key.ensures.lead in
-    let w = c.write.ensures.filled in
-    (lead.0.key, at_map (λ (r : Row _). r.key) rows c.args.place lead.0 lead.1,
-      met_and_filled (g.T.Terrain.has_walls t) (g.T.Terrain.leads t) rows (rows_of c.put_or_fault.new.self) (rows_of c.write.new.self) c.args.place c.args.wall c.in_ok-to.to lead.0 w.0 (numbers c.in_ok-key.key) w.1 c.in_ok-key.link lead.1 (subst (λ (r : Row _). IsAt r.slots c.args.wall None) (at_one rows c.args.place s.0 lead.0 s.1 lead.1) s.2) lead.2 c.in_ok-to.ensures.added c.in_ok-to.ensures.place w.2 w.3 w.4)
+    let w = c.write.ensures.filled in (
+      lead.0.key,
+      at_map (λ (r : Row _). r.key) rows c.args.place lead.0 lead.1,
+      met_and_filled (g.T.Terrain.has_walls t) (g.T.Terrain.leads t) rows (rows_of c.put_or_fault.new.self) (rows_of c.write.new.self) c.args.place c.args.wall c.in_ok-to.to lead.0 w.0 (numbers c.in_ok-key.key) w.1 c.in_ok-key.link lead.1 (subst (λ (r : Row _). IsAt r.slots c.args.wall None) (at_one rows c.args.place s.0 lead.0 s.1 lead.1) s.2) lead.2 c.in_ok-to.ensures.added c.in_ok-to.ensures.place w.2 w.3 w.4,
+    )
 
 pub returns-clause-filled : goal.returns-clause-filled
 returns-clause-filled g c =

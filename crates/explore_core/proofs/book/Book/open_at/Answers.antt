@@ -42,7 +42,7 @@ returns-else-wall-len-clause-none g c =
     let slots = c.index-record.result.now.slots in
     let v = slots.ok.0 in
     not_open _ _ _ (rows_of book) book.sound c.in-Ok.place (row_of numbers c.index-record.result.now) (numbers c.args.from.now) c.args.wall at (ap (λ r. r.key) (at_one (rows_of book) c.in-Ok.place (row_of numbers c.index-record.result.now) h.0 at h.1) ∙ h.2)
-        (λ (shown : IsAt (map (option_map (slot_of numbers)) slots.items) c.args.wall None). let empty = none_behind (slot_of numbers) slots.items c.args.wall shown in elim c.else-wall-len.branch [
-          else-wall-len-via-then-wall-len+else-is_none w ↦ none_or_some w.index.result.now (w.index.ensures ∙ get_or_from_slice_get slots.items c.args.wall None w.index.result.now empty) w.if-is_none.ensures
-          | else-wall-len-via-else-wall-len w ↦ (let i = at_within slots.items c.args.wall None empty in let j = w.if-wall-len.false in let k = c.len.ensures in absurd (omega arith))
-        ])
+    (λ (shown : IsAt (map (option_map (slot_of numbers)) slots.items) c.args.wall None). let empty = none_behind (slot_of numbers) slots.items c.args.wall shown in elim c.else-wall-len.branch [
+      | else-wall-len-via-then-wall-len+else-is_none w ↦ none_or_some w.index.result.now (w.index.ensures ∙ get_or_from_slice_get slots.items c.args.wall None w.index.result.now empty) w.if-is_none.ensures
+      | else-wall-len-via-else-wall-len w ↦ (let i = at_within slots.items c.args.wall None empty in let j = w.if-wall-len.false in let k = c.len.ensures in absurd (omega arith))
+    ])

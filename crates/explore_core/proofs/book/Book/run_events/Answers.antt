@@ -42,9 +42,13 @@ returns-in_err-step-clause-refused g c =
     let same : mid ≡ rows_of c.step.new.self = sym c.in_err-step.ensures.same in
     let why : Refuses numbers (g.T.Terrain.leads t) (g.T.Terrain.is_stuck_at t) (g.T.Terrain.is_stuck t) mid event c.in_err-step.field-0.0 = subst (λ (x : List ℤ). Refuses numbers (g.T.Terrain.leads x) (g.T.Terrain.is_stuck_at x) (g.T.Terrain.is_stuck x) mid event c.in_err-step.field-0.0) inv.terrain c.in_err-step.ensures.refused in
     let p = err_from_is_err_and c.from_residual.result c.from_residual.ensures.1 in
-    rw (p.1, p.2) (i, event, slice_get-get_or events i c.event-item.result c.loop-event-test.true ∙ ap Some (sym c.event-item.is),
+    rw (p.1, p.2) (
+      i,
+      event,
+      slice_get-get_or events i c.event-item.result c.loop-event-test.true ∙ ap Some (sym c.event-item.is),
       subst (λ (x : List (Row _)). Runs numbers (g.T.Terrain.has_walls t) (g.T.Terrain.leads t) (take i events) (rows_of c.args.self.now) x) same inv.ran,
-      subst (λ (x : List (Row _)). Refuses numbers (g.T.Terrain.leads t) (g.T.Terrain.is_stuck_at t) (g.T.Terrain.is_stuck t) x event c.in_err-step.field-0.0) same why)
+      subst (λ (x : List (Row _)). Refuses numbers (g.T.Terrain.leads t) (g.T.Terrain.is_stuck_at t) (g.T.Terrain.is_stuck t) x event c.in_err-step.field-0.0) same why,
+    )
 
 pub returns-in_err-step-clause-sound : goal.returns-in_err-step-clause-sound
 returns-in_err-step-clause-sound g c =
