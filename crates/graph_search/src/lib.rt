@@ -5,12 +5,11 @@
 
 mod apart;
 mod graph;
-mod laws;
+pub mod laws;
 mod search;
 
 pub use apart::first_apart;
 pub use graph::Graph;
-pub use laws::{least_set, neighbours_are_reachable, start_is_reachable};
 
 #[cfg(test)]
 mod tests;

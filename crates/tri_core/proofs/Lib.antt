@@ -13,3 +13,6 @@ mod Flipped
 mod Unique
 mod Connected
 mod Handed
+mod SeveralFlips
+mod Folds
+mod Images

@@ -7,5 +7,7 @@ pub mod HalfEdges
 pub mod Triangulation
 pub mod Flips
 pub mod Slots
+pub mod SeveralFlips
+pub mod Images
 pub mod Refusals
 pub mod Neighbours

@@ -5,6 +5,7 @@
 mod closed;
 mod half;
 mod joined;
+pub mod laws;
 mod paired;
 mod quadrilateral;
 mod tri;
