@@ -1,7 +1,7 @@
 -- Images: bijections, the half-edge before, the frame, and the determinant of the matrix.
 use Rattle.std.proofs.Common.{◌≡◌, ℕ, ◌<◌, [], ◌∷◌, List, length, refl, sym, ap, ◌∙◌, subst, arith}
 use Rattle.std.specs.Prelude.{pos}
-use Rattle.rings.specs.Ring.{Ops, IsRing, var, expr}
+use Rattle.rings.specs.Ring.{var, expr}
 use Rattle.rings.specs.Vectors.{Vector, multiple_vector}
 use Rattle.rings.specs.Matrices.{Matrix, mapped, matrix_det}
 use Rattle.rings.proofs.Solver.{identity}
@@ -13,7 +13,7 @@ use Rattle.quad_field.proofs.CallerLemmas.{quad_ring, order_of, natural_positive
 use Rattle.tri_core.specs.declared.half.Half.{Half}
 use Rattle.tri_core.specs.HalfEdges.{vector_at, twin_at, next_of, previous_of}
 use Rattle.tri_core.specs.Triangulation.{IsTriangulation}
-use Rattle.tri_core.specs.Images.{AreInverse, IsImage, IsImageBy, identity_matrix, AreTranslationEqual, CarriesFrame}
+use Rattle.tri_core.specs.Images.{AreInverse, IsImage, identity_matrix, AreTranslationEqual, CarriesFrame}
 use Rattle.tri_core.proofs.Quadrilaterals.{vectors_equal}
 use Rattle.tri_core.proofs.Triangles.{triple_at, next_next, next_inside}
 

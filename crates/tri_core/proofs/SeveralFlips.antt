@@ -6,7 +6,7 @@ use Rattle.tri_core.specs.declared.half.Half.{Half}
 use Rattle.tri_core.specs.HalfEdges.{vector_at, twin_at, next_of, previous_of}
 use Rattle.tri_core.specs.Triangulation.{IsTriangulation}
 use Rattle.tri_core.specs.SeveralFlips.{IsSpread, number_after_all, AreFlipped}
-use Rattle.tri_core.proofs.Triangles.{next_next, previous_previous, next_previous, previous_next}
+use Rattle.tri_core.proofs.Triangles.{next_next, previous_previous, next_previous}
 use Rattle.tri_core.proofs.Unique.{same_halves}
 
 -- ---- where half-edges move
