@@ -1,21 +1,18 @@
 -- What users of the crate may cite: the index of keys that go by a search, what events keep, and what an explorer knows of a filled book.
-use Rattle.std.proofs.Common.{◌≡◌, ◌≢◌, ℕ, zero, suc, ◌+◌, ◌<◌, ◌≤◌, List, [], ◌∷◌, ◌++◌, length, set, Option, Some, None, refl, sym, ap, ◌∙◌, subst, arith, ⊎_elim, inl, inr, true, false}
+use Rattle.std.proofs.Common.{◌≡◌, ◌≢◌, ℕ, zero, suc, ◌<◌, ◌≤◌, List, [], ◌∷◌, ◌++◌, length, set, Option, Some, None, refl, sym, ap, ◌∙◌, subst, arith, ⊎_elim, inl, inr, true, false}
 use Rattle.std.specs.Prelude.{ℤ, ◌⊎◌, insert}
 use Rattle.std.proofs.lemmas.Bool.Decides.{nat_tests}
 use Rattle.std.specs.declared.cmp.Ordering.{Ordering}
-use Rattle.std.specs.declared.cmp.Ordering.TheVariants.{Less, Equal, Greater}
-use Rattle.std.specs.Cmp.{IsTotalOrder}
-use Rattle.std.specs.Ordering.{ordering_reverse}
-use Rattle.std.proofs.lemmas.Cmp.{tied_itself}
+use Rattle.std.specs.declared.cmp.Ordering.TheVariants.{Less}
 use Rattle.std.proofs.lemmas.List.{length-append, length-set}
 use Rattle.std.proofs.lemmas.List.Edits.{length-insert}
 use mathlib.Core.Logic.{dite}
-use native.Mathlib.Decide.{ℕ_discrete, dec_lt}
+use native.Mathlib.Decide.{ℕ_discrete}
 use Rattle.terrain.specs.Places.{IsAt}
 use Rattle.explore_core.specs.Index.{IsIndex, IsGap, lists}
 use Rattle.terrain.proofs.CallerLemmas.{at_one, at_within, at_snoc, snoc_left, snoc_end, set_here, set_else}
 use Rattle.explore_core.specs.Books.{Slot, Row, HasKey, empty_row, empties, out}
-use Rattle.explore_core.specs.Events.{Ticket, Adds, Meets, Fills, FillsSlot, with_slot}
+use Rattle.explore_core.specs.Events.{Adds, Meets, Fills, FillsSlot, with_slot}
 
 pub listed_at : (xs : List ℕ) (a : ℕ) → lists xs a ≡ true → (i : ℕ) × IsAt xs i a
 listed_at [] a e = cc

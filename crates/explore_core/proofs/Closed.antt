@@ -1,6 +1,6 @@
 -- What a book tells: where no slot is empty its keys are exactly the reached ones, and complete schedules end in one book.
-use Rattle.std.proofs.Common.{◌≡◌, ◌≢◌, ℕ, zero, suc, ◌+◌, ◌<◌, ◌≤◌, List, [], ◌∷◌, ◌++◌, length, map, get_or, Option, Some, None, true, false, refl, sym, ap, ◌∙◌, subst, arith, ⊎_elim, inl, inr}
-use Rattle.std.specs.Prelude.{ℤ, Bool, ◌||◌, ◌↔◌, ◌⊎◌, Contains}
+use Rattle.std.proofs.Common.{◌≡◌, ℕ, zero, suc, ◌+◌, ◌<◌, ◌≤◌, List, [], ◌∷◌, ◌++◌, length, Option, Some, true, false, refl, sym, ap, ◌∙◌, subst, arith, ⊎_elim}
+use Rattle.std.specs.Prelude.{ℤ, Bool, ◌||◌, Contains}
 use Rattle.std.specs.Ordering.{is_eq}
 use Rattle.std.specs.declared.cmp.Ordering.{Ordering}
 use Rattle.std.specs.declared.cmp.Ordering.TheVariants.{Less, Equal, Greater}
@@ -16,8 +16,8 @@ use Rattle.terrain.specs.Reach.Path.{start, on}
 use Rattle.terrain.proofs.CallerLemmas.{at_one, at_within, read, at_map, map_at}
 use Rattle.explore_core.specs.declared.event.Event.{Event}
 use Rattle.explore_core.specs.declared.event.Event.TheVariants.{Meet, Fill}
-use Rattle.explore_core.specs.Books.{Slot, Row, HasKey, IsSound, keys_of, empty_row, empties, out}
-use Rattle.explore_core.specs.Events.{Ticket, Does, Runs, with_slot}
+use Rattle.explore_core.specs.Books.{Slot, Row, HasKey, IsSound, keys_of, empty_row, out}
+use Rattle.explore_core.specs.Events.{Does, Runs, with_slot}
 use Rattle.explore_core.proofs.EmptySlots.{none_empty}
 
 -- with nothing out, each slot of each row is filled

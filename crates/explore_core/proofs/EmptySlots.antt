@@ -1,5 +1,5 @@
 -- Lists of slots.
-use Rattle.std.proofs.Common.{◌≡◌, ℕ, zero, suc, ◌+◌, ◌<◌, ◌≤◌, List, [], ◌∷◌, length, set, Option, Some, None, replicate, refl, ap, sym, ◌∙◌, arith}
+use Rattle.std.proofs.Common.{◌≡◌, ℕ, zero, suc, ◌+◌, ◌<◌, ◌≤◌, List, [], ◌∷◌, length, set, Option, Some, None, replicate, refl, ap, arith}
 use Rattle.std.specs.Prelude.{is_some, true, false}
 use Rattle.terrain.specs.Places.{IsAt}
 use Rattle.explore_core.specs.Books.{empties}

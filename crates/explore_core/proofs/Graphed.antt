@@ -1,5 +1,5 @@
 -- The records by ascending keys, with their leads by rank, are the graph of the book; and where no slot is empty, of what is reached.
-use Rattle.std.proofs.Common.{◌≡◌, ℕ, zero, suc, ◌+◌, ◌<◌, ◌≤◌, List, [], ◌∷◌, length, map, Some, Option, refl, sym, ap, ◌∙◌, subst, arith}
+use Rattle.std.proofs.Common.{◌≡◌, ℕ, zero, suc, ◌<◌, List, length, map, Some, refl, sym, ap, ◌∙◌, subst, arith}
 use Rattle.std.specs.Prelude.{ℤ, Contains, slice_index, option_map, ◌↔◌}
 use Rattle.std.specs.declared.cmp.Ordering.{Ordering}
 use Rattle.std.specs.declared.cmp.Ordering.TheVariants.{Less, Equal}
@@ -11,7 +11,7 @@ use Rattle.terrain.specs.declared.graph.Lead.{Lead}
 use Rattle.terrain.specs.Places.{IsAt}
 use Rattle.terrain.specs.Graphs.{IsAscending, IsGraph}
 use Rattle.terrain.specs.Reach.{IsReached, AreReached}
-use Rattle.terrain.proofs.CallerLemmas.{at_one, at_within, read, at_map, map_at}
+use Rattle.terrain.proofs.CallerLemmas.{at_one, at_within, read, at_map}
 use Rattle.explore_core.specs.declared.record.Filled.{Filled}
 use Rattle.explore_core.specs.declared.record.Record.{Record}
 use Rattle.explore_core.specs.Books.{Slot, Row, HasKey, IsSound, keys_of, out}
@@ -20,7 +20,7 @@ use Rattle.explore_core.specs.Index.{IsIndex}
 use Rattle.explore_core.specs.Ranks.{ArePlaces, AllFull, AreRanked, ranked}
 use Rattle.explore_core.specs.Records.{slot_of, row_of, rows_from, ArePlaced}
 use Rattle.explore_core.proofs.CallerLemmas.{listed_at}
-use Rattle.explore_core.proofs.Closed.{all_filled, contains_at, at_contained, closed}
+use Rattle.explore_core.proofs.Closed.{all_filled, contains_at, at_contained}
 use Rattle.explore_core.proofs.RecordRows.{some_shown, some_behind}
 
 -- an index lists each place once

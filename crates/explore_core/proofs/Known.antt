@@ -1,12 +1,12 @@
 -- What is known of a key of a book: it is reached, it is the terrain's own, and it has its walls.
-use Rattle.std.proofs.Common.{◌≡◌, ℕ, ◌<◌, List, [], ◌∷◌, length, Some, None, sym, ap, ◌∙◌, subst, refl}
+use Rattle.std.proofs.Common.{◌≡◌, ℕ, ◌<◌, List, length, None, sym, ◌∙◌, subst}
 use Rattle.std.specs.Prelude.{ℤ}
 use mathlib.Core.Logic.{∥∥₁_elim, ∥∥₁_prop}
 use mathlib.Core.HLevel.{⊥_prop}
 use Rattle.terrain.specs.Places.{IsAt}
 use Rattle.terrain.specs.Reach.{IsReached}
 use Rattle.terrain.proofs.CallerLemmas.{at_one, lead_reached, own_reached}
-use Rattle.explore_core.specs.Books.{Row, HasKey, IsOpen, IsSound}
+use Rattle.explore_core.specs.Books.{Row, IsOpen, IsSound}
 
 module _ {L : Type 0} (Walls : List ℤ → ℕ → Type 0) (Leads : List ℤ → ℕ → List ℤ → L → Type 0) (root : List ℤ) where
   -- a reached key is the terrain's own, where only the fact that the root is so is known

@@ -1,10 +1,10 @@
 -- A slot is met and filled.
-use Rattle.std.proofs.Common.{◌≡◌, ◌≢◌, ℕ, ◌+◌, ◌<◌, ◌≤◌, List, [], ◌∷◌, ◌++◌, length, set, Option, Some, None, refl, sym, ap, ◌∙◌, subst, arith, ⊎_elim, inl, inr}
-use Rattle.std.specs.Prelude.{ℤ, ◌⊎◌, Result, Err}
+use Rattle.std.proofs.Common.{◌≡◌, ℕ, List, set, None, refl, ap, ◌∙◌, inr}
+use Rattle.std.specs.Prelude.{ℤ, Result, Err}
 use Rattle.terrain.specs.Places.{IsAt}
-use Rattle.terrain.proofs.CallerLemmas.{at_one, snoc_left}
-use Rattle.explore_core.specs.Books.{Slot, Row, HasKey, empty_row, keys_of}
-use Rattle.explore_core.specs.Events.{Ticket, Adds, Meets, Fills, FillsSlot, with_slot}
+use Rattle.terrain.proofs.CallerLemmas.{at_one}
+use Rattle.explore_core.specs.Books.{Row, keys_of}
+use Rattle.explore_core.specs.Events.{Adds, FillsSlot, with_slot}
 use Rattle.explore_core.proofs.CallerLemmas.{added_at}
 use Rattle.explore_core.proofs.Closed.{has_at_place}
 

@@ -1,15 +1,13 @@
 -- What records show, before and after a change.
-use Rattle.std.proofs.Common.{◌≡◌, ◌≢◌, ℕ, zero, suc, ◌+◌, ◌<◌, ◌≤◌, List, [], ◌∷◌, ◌++◌, length, map, get_or, set, Option, Some, None, replicate, refl, sym, ap, ◌∙◌, subst, arith, ⊎_elim}
-use Rattle.std.specs.Prelude.{ℤ, option_map, ◌⊎◌}
-use Rattle.std.specs.declared.cmp.Ordering.{Ordering}
-use Rattle.std.proofs.lemmas.List.{length-map, map-append}
+use Rattle.std.proofs.Common.{◌≡◌, ◌≢◌, ℕ, zero, suc, ◌<◌, List, [], ◌∷◌, ◌++◌, length, map, get_or, set, Option, Some, None, replicate, refl, sym, ap, ◌∙◌, subst, ⊎_elim}
+use Rattle.std.specs.Prelude.{ℤ, option_map}
+use Rattle.std.proofs.lemmas.List.{map-append}
 use Rattle.terrain.specs.Places.{IsAt}
-use Rattle.terrain.proofs.CallerLemmas.{at_one, at_within, at_map, map_at, at_set, at_snoc, snoc_left}
+use Rattle.terrain.proofs.CallerLemmas.{at_one, at_map, map_at, at_set, at_snoc, snoc_left}
 use Rattle.explore_core.specs.declared.record.Filled.{Filled}
 use Rattle.explore_core.specs.declared.record.Record.{Record}
 use Rattle.explore_core.specs.Books.{Slot, Row, empty_row, keys_of}
 use Rattle.explore_core.specs.Events.{with_slot}
-use Rattle.explore_core.specs.Index.{IsIndex}
 use Rattle.explore_core.specs.Records.{slot_of, row_of, rows_from, ArePlaced}
 use Rattle.explore_core.proofs.Sound.{map_set, keys_of-set, keys_of-append}
 use Rattle.explore_core.proofs.EmptySlots.{none_filled}

@@ -1,6 +1,6 @@
 -- What one event did, or why it was refused.
-use Rattle.std.proofs.Common.{◌≡◌, ℕ, List, None, refl, sym, ap, ◌∙◌, subst, inl, inr, ⊎_elim}
-use Rattle.std.specs.Prelude.{ℤ, ◌⊎◌, Result, Ok, Err, MatchResult, OnOk, IfErr}
+use Rattle.std.proofs.Common.{◌≡◌, ℕ, List, None, ap, ◌∙◌, subst, inl, inr}
+use Rattle.std.specs.Prelude.{ℤ, Result, Ok, Err, MatchResult, OnOk, IfErr}
 use Rattle.terrain.specs.declared.stop.Stop.{Stop}
 use Rattle.terrain.specs.declared.stop.Stop.TheVariants as stops
 use Rattle.terrain.specs.Stops.{IfFault}

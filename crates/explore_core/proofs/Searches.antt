@@ -1,20 +1,17 @@
 -- A search by halves, and the index that it goes by.
-use Rattle.std.proofs.Common.{◌≡◌, ◌≢◌, ℕ, zero, suc, ◌+◌, ◌<◌, ◌≤◌, List, [], ◌∷◌, ◌++◌, length, refl, sym, ap, ◌∙◌, subst, arith, ⊎_elim, inl, inr, Some, true, false}
-use Rattle.std.specs.Prelude.{ℤ, ◌⊎◌, insert}
-use Rattle.std.proofs.lemmas.Bool.Decides.{nat_tests}
+use Rattle.std.proofs.Common.{◌≡◌, ◌≢◌, ℕ, ◌+◌, ◌<◌, ◌≤◌, List, length, sym, ap, ◌∙◌, subst, arith}
+use Rattle.std.specs.Prelude.{ℤ}
 use Rattle.std.specs.declared.cmp.Ordering.{Ordering}
-use Rattle.std.specs.declared.cmp.Ordering.TheVariants.{Less, Equal, Greater}
+use Rattle.std.specs.declared.cmp.Ordering.TheVariants.{Less, Greater}
 use Rattle.std.specs.Cmp.{IsTotalOrder}
 use Rattle.std.specs.Ordering.{ordering_reverse}
 use Rattle.std.proofs.lemmas.Cmp.{tied_itself}
-use Rattle.std.proofs.lemmas.List.{length-append}
-use Rattle.std.proofs.lemmas.List.Edits.{length-insert}
 use mathlib.Core.Logic.{dite}
 use native.Mathlib.Decide.{ℕ_discrete, dec_lt}
 use Rattle.terrain.specs.Places.{IsAt}
 use Rattle.explore_core.specs.Index.{IsIndex, IsGap}
 use Rattle.explore_core.proofs.CallerLemmas.{listed_at}
-use Rattle.terrain.proofs.CallerLemmas.{at_one, at_within, at_snoc, snoc_left, snoc_end}
+use Rattle.terrain.proofs.CallerLemmas.{at_one, at_within}
 
 module _ (order : List ℤ → List ℤ → Ordering) (keys : List (List ℤ)) (places : List ℕ) (k : List ℤ) where
   -- what is known of the key when it is sought from low to high

@@ -1,17 +1,17 @@
 -- Each event keeps a book sound.
-use Rattle.std.proofs.Common.{◌≡◌, ◌≢◌, ℕ, zero, suc, ◌+◌, ◌<◌, ◌≤◌, List, [], ◌∷◌, ◌++◌, length, map, set, Option, Some, None, refl, sym, ap, ◌∙◌, subst, arith, ⊎_elim, inl, inr, replicate}
+use Rattle.std.proofs.Common.{◌≡◌, ◌≢◌, ℕ, zero, suc, List, [], ◌∷◌, ◌++◌, length, map, set, Option, Some, None, refl, sym, ap, ◌∙◌, subst, ⊎_elim, replicate}
 use Rattle.std.specs.Prelude.{◌⊎◌, ℤ}
-use mathlib.Core.Logic.{dite, ∥∥₁_map}
+use mathlib.Core.Logic.{dite}
 use native.Mathlib.Decide.{ℕ_discrete}
 use Rattle.std.proofs.lemmas.List.{length-set, length-replicate, map-append}
 use Rattle.terrain.specs.Places.{IsAt}
-use Rattle.terrain.specs.Reach.{LeadsTo, Path, IsReached}
+use Rattle.terrain.specs.Reach.{IsReached}
 use Rattle.terrain.specs.Reach.Path.{start}
-use Rattle.terrain.proofs.CallerLemmas.{at_set, set_here, set_else, at_snoc, snoc_left, snoc_end, at_within, at_one, at_map, lead_reached}
+use Rattle.terrain.proofs.CallerLemmas.{at_set, set_here, set_else, at_snoc, snoc_left, at_within, at_one, at_map, lead_reached}
 use Rattle.explore_core.specs.declared.event.Event.{Event}
 use Rattle.explore_core.specs.declared.event.Event.TheVariants.{Meet, Fill}
 use Rattle.explore_core.specs.Books.{Slot, Row, HasKey, IsSound, keys_of, empty_row}
-use Rattle.explore_core.specs.Events.{Ticket, Adds, Does, Runs, with_slot}
+use Rattle.explore_core.specs.Events.{Ticket, Does, Runs, with_slot}
 use Rattle.explore_core.proofs.EmptySlots.{none_filled}
 
 -- a list of keys with one replaced by itself

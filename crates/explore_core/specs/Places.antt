@@ -1,5 +1,5 @@
 -- Where a key is, or where it would stand.
-use Rattle.std.specs.Prelude.{◌≡◌, ℕ, ℤ, List}
+use Rattle.std.specs.Prelude.{ℕ, ℤ, List}
 use Rattle.std.specs.declared.cmp.Ordering.{Ordering}
 use Rattle.terrain.specs.Places.{IsAt}
 use Rattle.explore_core.specs.declared.spot.Spot.{Spot}

@@ -1,5 +1,5 @@
 -- What the records of a book show.
-use Rattle.std.specs.Prelude.{◌≡◌, ℕ, ℤ, List, Option, Some, map, option_map}
+use Rattle.std.specs.Prelude.{ℕ, ℤ, List, Some, map, option_map}
 use Rattle.terrain.specs.Places.{IsAt}
 use Rattle.explore_core.specs.declared.record.Filled.{Filled}
 use Rattle.explore_core.specs.declared.record.Record.{Record}

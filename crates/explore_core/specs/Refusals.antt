@@ -1,5 +1,5 @@
 -- Why an event is refused.
-use Rattle.std.specs.Prelude.{◌≡◌, ℕ, ℤ, List, ◌⊎◌}
+use Rattle.std.specs.Prelude.{ℕ, ℤ, List, ◌⊎◌}
 use Rattle.terrain.specs.declared.stop.Stop.{Stop}
 use Rattle.terrain.specs.declared.stop.Stop.TheVariants as stops
 use Rattle.explore_core.specs.declared.event.Event.{Event}

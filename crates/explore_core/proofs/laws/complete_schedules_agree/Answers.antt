@@ -1,4 +1,3 @@
-use Rattle.std.proofs.Common.{◌≡◌}
 use Rattle.explore_core.proofs.Sound.{kept_all, sound_root}
 use Rattle.explore_core.proofs.Closed.{closed, rows_agree}
 use Rattle.explore_core.proofs.laws.complete_schedules_agree.Goals as goal

@@ -1,8 +1,7 @@
-use Rattle.std.proofs.Common.{◌≡◌, ◌≢◌, ◌<◌, ◌≤◌, ◌+◌, ◌++◌, ◌∷◌, [], ◌∙◌, ℕ, List, length, map, Some, None, Option, set, get_or, vec_len, refl, sym, ap, subst, arith}
+use Rattle.std.proofs.Common.{◌≡◌, ◌≢◌, ◌<◌, ◌∙◌, ℕ, length, map, vec_len, refl, sym, subst, arith}
 use Rattle.terrain.specs.Places.{IsAt}
 use mathlib.Core.Logic.{dite}
 use native.Mathlib.Decide.{ℕ_discrete}
-use Rattle.terrain.specs.declared.graph.Lead.{Lead}
 use Rattle.explore_core.specs.declared.record.Record.{Record}
 use Rattle.explore_core.specs.Ranks.{AreRanked}
 use Rattle.terrain.proofs.CallerLemmas.{at_within, at_one, set_else}

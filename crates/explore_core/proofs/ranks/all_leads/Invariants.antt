@@ -1,4 +1,4 @@
-use Rattle.std.proofs.Common.{◌≡◌, ◌<◌, ◌≤◌, ℕ, List, length, map, Some, vec_len}
+use Rattle.std.proofs.Common.{◌≡◌, ◌<◌, ◌≤◌, ℕ, List, map, vec_len}
 use Rattle.terrain.specs.Places.{IsAt}
 use Rattle.terrain.specs.declared.graph.Lead.{Lead}
 use Rattle.explore_core.specs.declared.record.Record.{Record}

@@ -1,4 +1,4 @@
-use Rattle.std.proofs.Common.{◌≡◌, ◌<◌, ◌≤◌, ◌+◌, ◌++◌, ◌∷◌, [], ◌∙◌, ℕ, List, length, Some, None, Option, set, get_or, vec_len, refl, sym, ap, subst, arith}
+use Rattle.std.proofs.Common.{◌≡◌, ◌≤◌, ◌∙◌, ℕ, List, length, Some, Option, set, get_or, vec_len, sym, subst, arith}
 use Rattle.terrain.specs.Places.{IsAt}
 use Rattle.terrain.proofs.CallerLemmas.{at_within}
 use Rattle.explore_core.proofs.Taken.{there, kept_more, done_more}

@@ -1,4 +1,4 @@
-use Rattle.std.proofs.Common.{◌≡◌, ◌<◌, ◌≤◌, ℕ, length, map, Some, vec_len}
+use Rattle.std.proofs.Common.{◌≡◌, ◌<◌, ◌≤◌, ℕ, map, Some, vec_len}
 use Rattle.terrain.specs.Places.{IsAt}
 use Rattle.explore_core.proofs.ranks.in_order.Given as goal
 

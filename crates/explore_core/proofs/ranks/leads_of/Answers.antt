@@ -1,4 +1,4 @@
-use Rattle.std.proofs.Common.{◌≡◌, ◌<◌, ◌≤◌, ◌+◌, ◌++◌, ◌∷◌, [], ◌∙◌, ℕ, List, length, Some, None, Option, set, get_or, vec_len, refl, sym, ap, subst, arith}
+use Rattle.std.proofs.Common.{◌≡◌, ◌<◌, ◌∙◌, List, length, Some, None, Option, sym, subst, arith}
 use Rattle.terrain.specs.Places.{IsAt}
 use Rattle.terrain.specs.declared.graph.Lead.{Lead}
 use Rattle.explore_core.specs.declared.record.Filled.{Filled}

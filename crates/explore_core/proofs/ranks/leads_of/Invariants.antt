@@ -1,4 +1,4 @@
-use Rattle.std.proofs.Common.{◌≡◌, ◌<◌, ◌≤◌, ℕ, length, Some, Option, vec_len}
+use Rattle.std.proofs.Common.{◌≡◌, ◌<◌, ◌≤◌, ℕ, Some, Option, vec_len}
 use Rattle.terrain.specs.Places.{IsAt}
 use Rattle.explore_core.specs.declared.record.Filled.{Filled}
 use Rattle.explore_core.specs.Ranks.{ranked}

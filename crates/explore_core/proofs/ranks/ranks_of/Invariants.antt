@@ -1,4 +1,4 @@
-use Rattle.std.proofs.Common.{◌≡◌, ◌<◌, ℕ, length, Some, vec_len}
+use Rattle.std.proofs.Common.{◌≡◌, ◌<◌, ℕ, length, vec_len}
 use Rattle.terrain.specs.Places.{IsAt}
 use Rattle.explore_core.proofs.ranks.ranks_of.Given as goal
 

@@ -1,8 +1,8 @@
-use Rattle.std.proofs.Common.{◌≡◌, ◌<◌, ◌≤◌, ◌+◌, ◌-◌, ◌/◌, ℕ, List, length, map, get_or, arith, sym, ap, ◌∙◌, subst, Some}
+use Rattle.std.proofs.Common.{◌≡◌, ◌<◌, ◌+◌, ◌-◌, ◌/◌, List, length, map, get_or, arith, sym, ap, ◌∙◌, subst}
 use Rattle.std.specs.Prelude.{ℤ}
 use Rattle.terrain.specs.Places.{IsAt}
 use Rattle.explore_core.proofs.Elements.{number_read, key_read}
-use Rattle.explore_core.proofs.Searches.{begin, halve_up, halve_down, gap_at, not_there}
+use Rattle.explore_core.proofs.Searches.{halve_up, halve_down, gap_at, not_there}
 use Rattle.explore_core.proofs.search.find.Goals as goal
 
 pub returns-in-Equal-clause-found : goal.returns-in-Equal-clause-found

@@ -1,4 +1,4 @@
-use Rattle.std.proofs.Common.{◌-◌, ◌≤◌, ◌<◌, ◌≡◌, ℕ, length, map}
+use Rattle.std.proofs.Common.{◌-◌, map}
 use Rattle.explore_core.proofs.Searches.{Between}
 use Rattle.explore_core.proofs.search.find.Given as goal
 

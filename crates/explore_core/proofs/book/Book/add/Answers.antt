@@ -1,8 +1,8 @@
-use Rattle.std.proofs.Common.{◌≡◌, ◌<◌, ◌≤◌, ◌+◌, ◌*◌, ◌^◌, ◌++◌, ◌∷◌, [], ℕ, List, length, None, arith, sym, ◌∙◌, subst, vec_len, refl, ap, replicate}
-use Rattle.std.specs.Prelude.{insert, ℤ}
+use Rattle.std.proofs.Common.{◌≡◌, length, arith, sym, ◌∙◌, subst, ap}
+use Rattle.std.specs.Prelude.{insert}
 use mathlib.Core.Logic.{∥∥₁_map}
 use Rattle.std.proofs.lemmas.List.{length-map}
-use Rattle.explore_core.specs.Books.{Row, HasKey, IsSound, empty_row, keys_of, out}
+use Rattle.explore_core.specs.Books.{Row, HasKey, IsSound, keys_of, out}
 use Rattle.explore_core.specs.Records.{row_of}
 use Rattle.explore_core.specs.Views.{rows_of}
 use Rattle.explore_core.proofs.Sound.{sound_added, keys_of-append}

@@ -1,10 +1,10 @@
-use Rattle.std.proofs.Common.{◌≡◌, ◌∙◌, refl, sym, ap, subst, inl, Err, None, Some}
+use Rattle.std.proofs.Common.{refl, sym, ap, subst, inl, Err, None, Some}
 use Rattle.std.proofs.lemmas.Result.{err_from_is_err_and}
 use Rattle.terrain.specs.declared.graph.ExploreFault.TheVariants.{Fault}
 use Rattle.terrain.specs.Places.{IsAt}
 use Rattle.terrain.specs.Reach.{IsReached}
 use Rattle.terrain.proofs.CallerLemmas.{at_one, at_map, set_here}
-use Rattle.std.specs.Prelude.{slice_set, List}
+use Rattle.std.specs.Prelude.{List}
 use Rattle.explore_core.specs.Books.{Row, IsFilled}
 use Rattle.explore_core.specs.Events.{with_slot}
 use Rattle.explore_core.specs.Views.{rows_of}

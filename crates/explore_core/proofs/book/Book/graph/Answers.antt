@@ -1,5 +1,4 @@
-use Rattle.std.proofs.Common.{◌≡◌, ◌<◌, ◌+◌, ◌^◌, ◌∙◌, ℕ, Some, List, Vec, Global, vec_len, length, map, get_or, refl, sym, ap, subst, arith}
-use Rattle.std.specs.Prelude.{ℤ}
+use Rattle.std.proofs.Common.{◌≡◌, ◌<◌, ◌∙◌, ℕ, List, Vec, Global, vec_len, length, map, refl, sym, ap, subst, arith}
 use Rattle.std.proofs.lemmas.List.{length-map}
 use Rattle.std.proofs.lemmas.Option.{slice_get_read}
 use Rattle.terrain.specs.declared.graph.Lead.{Lead}
@@ -7,12 +6,11 @@ use Rattle.terrain.specs.Places.{IsAt}
 use Rattle.explore_core.specs.declared.record.Record.{Record}
 use Rattle.terrain.proofs.CallerLemmas.{at_within}
 use Rattle.explore_core.specs.Books.{Row, keys_of}
-use Rattle.explore_core.specs.Graphs.{IsGraphOf}
 use Rattle.explore_core.specs.Ranks.{ArePlaces, AreRanked}
-use Rattle.explore_core.specs.Records.{row_of, rows_from}
+use Rattle.explore_core.specs.Records.{row_of}
 use Rattle.explore_core.specs.Views.{rows_of}
 use Rattle.explore_core.proofs.Closed.{sound_of, closed}
-use Rattle.explore_core.proofs.Graphed.{each_once, filled_records, graph_of, as_many, graph_reached}
+use Rattle.explore_core.proofs.Graphed.{each_once, filled_records, graph_of, graph_reached}
 use Rattle.explore_core.proofs.book.Book.graph.Goals as goal
 
 pub ranks_of-requires-clause-places : goal.ranks_of-requires-clause-places

@@ -1,4 +1,4 @@
-use Rattle.std.proofs.Common.{◌≡◌, ◌<◌, ◌∙◌, length, map, refl, sym, ap, subst, arith, None, Some}
+use Rattle.std.proofs.Common.{◌<◌, ◌∙◌, length, refl, sym, ap, arith, Some}
 use Rattle.std.specs.Prelude.{option_map}
 use Rattle.std.proofs.lemmas.List.{length-map}
 use Rattle.std.proofs.lemmas.Option.{slice_get_read}

@@ -1,4 +1,3 @@
-use Rattle.std.proofs.Common.{◌≡◌}
 use Rattle.explore_core.specs.Books.{Row}
 use Rattle.explore_core.specs.Records.{row_of}
 use Rattle.explore_core.specs.Views.{rows_of}

@@ -1,8 +1,7 @@
-use Rattle.std.proofs.Common.{◌≡◌, ◌<◌, ◌≤◌, ◌+◌, ℕ, List, length, arith, sym, ◌∙◌, subst, vec_len, refl, ap}
+use Rattle.std.proofs.Common.{◌<◌, length, arith, sym, subst, refl}
 use Rattle.std.proofs.lemmas.List.{length-map}
 use Rattle.std.proofs.lemmas.Result.{MatchResult-weaker}
 use Rattle.terrain.specs.Stops.{IfFault}
-use Rattle.terrain.specs.Places.{IsAt}
 use Rattle.terrain.proofs.CallerLemmas.{at_one, at_within}
 use Rattle.explore_core.specs.Books.{Row}
 use Rattle.explore_core.specs.Records.{row_of}

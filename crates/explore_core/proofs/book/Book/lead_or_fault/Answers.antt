@@ -1,4 +1,4 @@
-use Rattle.std.proofs.Common.{◌≡◌, ◌<◌, ◌∙◌, length, refl, sym, ap, subst, inr}
+use Rattle.std.proofs.Common.{◌≡◌, ◌<◌, ◌∙◌, length, sym, ap, subst, inr}
 use Rattle.terrain.specs.Reach.{IsReached}
 use Rattle.terrain.proofs.CallerLemmas.{at_one, at_within}
 use Rattle.explore_core.specs.Books.{Row}

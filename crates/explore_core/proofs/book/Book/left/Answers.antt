@@ -1,5 +1,5 @@
-use Rattle.std.proofs.Common.{◌≡◌, ◌∙◌, sym}
-use Rattle.explore_core.specs.Views.{rows_of, walls_in, leads_in, root_of}
+use Rattle.std.proofs.Common.{◌∙◌, sym}
+use Rattle.explore_core.specs.Views.{rows_of}
 use Rattle.explore_core.proofs.Closed.{closed}
 use Rattle.explore_core.proofs.book.Book.left.Goals as goal
 

@@ -1,4 +1,3 @@
-use Rattle.std.proofs.Common.{◌≡◌, ◌∙◌, sym, ap, subst}
 use Rattle.std.proofs.lemmas.Result.{err_from_is_err_and}
 use Rattle.explore_core.specs.Views.{rows_of}
 use Rattle.explore_core.proofs.Refused.{is_open, ticket, refused_wall, refused_target}

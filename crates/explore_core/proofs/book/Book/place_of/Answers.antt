@@ -1,13 +1,11 @@
-use Rattle.std.proofs.Common.{◌≡◌, ◌∙◌, List, map, ap, sym, subst}
+use Rattle.std.proofs.Common.{◌∙◌, List, map, ap, sym, subst}
 use Rattle.std.specs.Prelude.{ℤ}
 use Rattle.std.proofs.lemmas.Result.{MatchResult-weaker}
 use Rattle.terrain.specs.Places.{IsAt}
-use Rattle.explore_core.specs.Books.{keys_of}
-use Rattle.explore_core.specs.Index.{IsIndex, IsGap}
+use Rattle.explore_core.specs.Index.{IsGap}
 use Rattle.explore_core.specs.Views.{rows_of}
 use Rattle.explore_core.proofs.CallerLemmas.{index_as}
 use Rattle.explore_core.proofs.RecordRows.{keys_are}
-use Rattle.explore_core.proofs.Searches.{not_there}
 use Rattle.explore_core.proofs.Closed.{key_at}
 use Rattle.explore_core.proofs.book.Book.place_of.Goals as goal
 

@@ -1,10 +1,9 @@
-use Rattle.std.proofs.Common.{◌≡◌, ◌+◌, ◌++◌, ◌∷◌, [], ℕ, List, length, arith, sym, ◌∙◌, subst, refl, ap, inl}
+use Rattle.std.proofs.Common.{◌≡◌, ◌++◌, ◌∷◌, [], List, length, arith, sym, ◌∙◌, subst, refl, ap, inl}
 use Rattle.std.specs.Prelude.{ℤ}
 use Rattle.std.proofs.lemmas.List.{length-map}
 use Rattle.terrain.specs.Places.{IsAt}
 use Rattle.terrain.proofs.CallerLemmas.{snoc_end}
 use Rattle.explore_core.specs.Books.{Row, keys_of}
-use Rattle.explore_core.specs.Places.{IsSpot}
 use Rattle.explore_core.specs.Records.{row_of}
 use Rattle.explore_core.specs.Views.{rows_of}
 use Rattle.explore_core.proofs.Sound.{keys_of-append}

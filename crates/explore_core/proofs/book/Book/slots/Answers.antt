@@ -1,4 +1,4 @@
-use Rattle.std.proofs.Common.{◌≡◌, ◌≤◌, ◌^◌, ◌<◌, length, map, vec_len, arith, sym, ◌∙◌, ap}
+use Rattle.std.proofs.Common.{length, arith}
 use Rattle.std.specs.Prelude.{option_map}
 use Rattle.std.proofs.lemmas.List.{length-map}
 use Rattle.explore_core.specs.Records.{row_of, slot_of}

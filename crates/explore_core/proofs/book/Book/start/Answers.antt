@@ -1,7 +1,5 @@
-use Rattle.std.proofs.Common.{◌≡◌, ℕ, ◌+◌, ◌≤◌, ◌^◌, ◌<◌, [], ◌∷◌, ◌++◌, List, length, vec_len, refl, arith, sym, ◌∙◌, ap, subst}
-use Rattle.std.specs.Prelude.{ℤ}
-use Rattle.explore_core.specs.Books.{Row, empty_row, out, keys_of}
-use Rattle.explore_core.specs.Records.{row_of, rows_from}
+use Rattle.std.proofs.Common.{◌≡◌, ℕ, ◌+◌, ◌^◌, ◌<◌, [], ◌∷◌, ◌++◌, arith, sym, ◌∙◌, ap}
+use Rattle.explore_core.specs.Books.{empty_row, out, keys_of}
 use Rattle.explore_core.proofs.Sound.{sound_root}
 use Rattle.explore_core.proofs.CallerLemmas.{index_one, index_as}
 use Rattle.explore_core.proofs.RecordRows.{rows-added, placed-added}

@@ -1,4 +1,3 @@
-use Rattle.std.proofs.Common.{◌≡◌}
 use Rattle.explore_core.specs.Views.{rows_of}
 use Rattle.explore_core.proofs.Refused.{not_met}
 use Rattle.explore_core.proofs.book.Book.step.Goals as goal

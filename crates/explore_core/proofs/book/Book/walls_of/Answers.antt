@@ -1,4 +1,4 @@
-use Rattle.std.proofs.Common.{◌≡◌, refl}
+use Rattle.std.proofs.Common.{refl}
 use Rattle.explore_core.proofs.Known.{own_as, own_of}
 use Rattle.explore_core.proofs.book.Book.walls_of.Goals as goal
 

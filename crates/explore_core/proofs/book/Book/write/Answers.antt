@@ -1,5 +1,5 @@
-use Rattle.std.proofs.Common.{◌≡◌, ◌<◌, ◌≤◌, ◌+◌, ℕ, length, map, set, get_or, None, Some, arith, sym, ◌∙◌, subst, vec_len, refl, ap}
-use Rattle.std.specs.Prelude.{ℤ, List, slice_set, option_map}
+use Rattle.std.proofs.Common.{◌≡◌, length, set, None, Some, arith, sym, ◌∙◌, subst, refl, ap}
+use Rattle.std.specs.Prelude.{option_map}
 use mathlib.Core.Logic.{∥∥₁_map}
 use Rattle.std.proofs.lemmas.List.{length-map}
 use Rattle.std.proofs.lemmas.Option.{slice_get_read}
@@ -13,7 +13,6 @@ use Rattle.explore_core.specs.Views.{rows_of}
 use Rattle.explore_core.proofs.Sound.{sound_filled}
 use Rattle.explore_core.proofs.CallerLemmas.{index_as}
 use Rattle.explore_core.proofs.Closed.{has_at_place}
-use Rattle.explore_core.proofs.Elements.{key_read}
 use Rattle.explore_core.proofs.RecordRows.{row_read, rows-written, keys-written, placed-written}
 use Rattle.explore_core.proofs.Outs.{out-set}
 use Rattle.explore_core.proofs.book.Book.write.Goals as goal
