@@ -17,7 +17,10 @@ fn a_ring_of_ten_keys_within_ten(rt: HostRuntime) -> Result<(), Fail> {
         .flat_map(|row| row.iter())
         .map(|lead| lead.to)
         .collect(rt.alloc())?;
-    assert_eq!(rt; leads.as_slice(), &[1, 0, 2, 2, 3, 4, 4, 6, 5, 8, 6, 0, 7, 2, 8, 4, 9, 6, 0, 8][..]);
+    assert_eq!(rt;
+        leads.as_slice(),
+        &[1, 0, 2, 2, 3, 4, 4, 6, 5, 8, 6, 0, 7, 2, 8, 4, 9, 6, 0, 8][..]
+    );
     Ok(())
 }
 

@@ -1,9 +1,9 @@
-use Rattle.std.proofs.Common.{◌≡◌, ◌<◌, ◌≤◌, ◌+◌, ◌∙◌, ℕ, List, length, refl, sym, ap, subst, arith, Err}
+use Rattle.std.proofs.Common.{◌∙◌, List, ap, subst, arith, Err}
 use Rattle.std.specs.Prelude.{ℤ}
 use Rattle.std.proofs.lemmas.Result.{err_from_is_err_and}
 use Rattle.terrain.specs.declared.graph.ExploreFault.TheVariants.{Fault}
-use Rattle.terrain.specs.Causes.{MoreAreReached, IsStuckWithin}
-use Rattle.explore_core.specs.Views.{rows_of, terrain_of, root_of}
+use Rattle.terrain.specs.Causes.{IsStuckWithin}
+use Rattle.explore_core.specs.Views.{rows_of, terrain_of}
 use Rattle.explore_core.proofs.CallerLemmas.{fills_keeps}
 use Rattle.explore_one.proofs.Rows.{err_is, keeps_more, filled_more, full_at}
 use Rattle.explore_one.proofs.fill.fill_slots.Goals as goal
