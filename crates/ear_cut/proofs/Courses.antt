@@ -118,7 +118,7 @@ halves_more glues edges k e n halves more o below so_far pushed inside pair foun
 some_source : (o : Origin) (sides : List Side) → 1 ≤ count o sides → HasSource sides o
 some_source o sides some = count_some o sides some
 
-side_is_there : (g : Gluing) (sides : List Side) (cut : ArePolygonsCut g.field g.polygons sides) (o : Origin) → 1 ≤ count o (sides_of cut.pieces) → IsSourceThere g.polygons o
+pub side_is_there : (g : Gluing) (sides : List Side) (cut : ArePolygonsCut g.field g.polygons sides) (o : Origin) → 1 ≤ count o (sides_of cut.pieces) → IsSourceThere g.polygons o
 side_is_there g sides cut (Origin.outer r f) some =
     let found = outer_is_there r f g.field 0 0 g.polygons cut.pieces cut.cut some in
     let same : found.0 ≡ r = omega (arith, found.1) in

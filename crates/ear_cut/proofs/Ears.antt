@@ -1,394 +1,297 @@
 -- Convex polygons can be cut, ear by ear.
-use Rattle.std.proofs.Common.{◌≡◌, ℕ, zero, suc, ◌<◌, ◌≤◌, List, [], ◌∷◌, ◌++◌, length, subst, sym, ap, ◌∙◌, refl, arith}
-use Rattle.std.specs.Prelude.{pos, ◌⊎◌}
+use Rattle.std.proofs.Common.{◌≡◌, ℕ, zero, suc, ◌+◌, ◌%◌, ◌<◌, ◌≤◌, ◌↔◌, ◌⊎◌, List, [], ◌∷◌, length, get_or, subst, sym, ap, ◌∙◌, refl, arith, inl, inr}
+use Rattle.std.specs.Prelude.{pos}
 use Rattle.std.specs.List.{AllByRecursion}
-use mathlib.Core.Logic.{inl, inr}
 use Rattle.std.proofs.lemmas.Bool.{cases_lt}
-use Rattle.std.proofs.lemmas.List.{append_assoc, length-append}
+use Rattle.std.proofs.Math.Nat.{mod-lt, mod-add-mod}
 use Rattle.rings.specs.Ring.{Ops, IsRing, var, expr}
-use Rattle.rings.specs.Order.{IsOrdered, Sign, is_zero, is_positive, is_negative}
+use Rattle.rings.specs.Order.{IsOrdered}
 use Rattle.rings.proofs.Solver.{identity}
-use Rattle.rings.proofs.Ordered.{not_both_signs}
 use Rattle.quad_field.specs.Quads.{quad_ops, IsPositive}
 use Rattle.quad_field.specs.FieldNumber.{IsFieldNumber}
 use Rattle.quad_field.specs.declared.quad.Quad.{Quad}
-use Rattle.quad_field.proofs.CallerLemmas.{quad_ring, quad_order}
 use Rattle.plane.specs.Vectors.{Vector, det, vector_sum}
-use Rattle.gluing.specs.Polygons.{no_vector, zero_of, side_at, side_after, corner, sum_of, IsFlat, IsProper}
-use Rattle.ear_cut.specs.Cuttings.{chord_at, replaced, HasPositiveCorner, IsEar}
-use Rattle.ear_cut.specs.Cuttable.{NeverTurnsRight, IsCuttable}
-use Rattle.ear_cut.proofs.Splits.{all_both, all_first, all_second, last_of}
-use Rattle.ear_cut.proofs.Turning.{NN, nn_of, not_negative, both, total, total_turned, total_merged, det_closed_second, det_closed_third, InConvexPosition, convex_turned, convex_merged, Upper, Goes, Chain, chain_of, chain_joined, rising_convex}
-use Rattle.ear_cut.proofs.Corners.{Inner, Seam, inner_or_seam, length_push, replaced_inner, replaced_seam, at_inner, after_inner, at_seam, after_seam, corner_inner, corner_seam}
-use Rattle.ear_cut.proofs.Parallel.{Parallel, parallel_turned, parallel_trans, parallel_self, parallel_part, parallel_other_part, all_parallel}
-
--- a place below n where F holds, or none
-search_below : (F : ℕ → Type 0) → ((i : ℕ) → F i ⊎ ¬ (F i)) → (n : ℕ) → ((i : ℕ) × (i < n) × F i) ⊎ ((i : ℕ) → i < n → ¬ (F i))
-search_below F decide zero = inr (λ i h. absurd (omega (arith, h)))
-search_below F decide (suc n) = go (decide n) (search_below F decide n)
-  where
-    go : F n ⊎ ¬ (F n) → ((i : ℕ) × (i < n) × F i) ⊎ ((i : ℕ) → i < n → ¬ (F i)) → ((i : ℕ) × (i < suc n) × F i) ⊎ ((i : ℕ) → i < suc n → ¬ (F i))
-    go (inl f) _ = inl (n, omega arith, f)
-    go (inr _) (inl w) = inl (w.0, omega (arith, w.1), w.2)
-    go (inr not) (inr none) = inr (λ i h f. elim (equal_or_below i h) [
-      | inl e ↦ not (subst F e f)
-      | inr below ↦ none i below f
-    ])
-      where
-        equal_or_below : (i : ℕ) → i < suc n → (i ≡ n) ⊎ (i < n)
-        equal_or_below i h = elim (below_or_not i) [ inl b ↦ inr b | inr nb ↦ inl (omega (arith, h, nb)) ]
-          where
-            below_or_not : (i : ℕ) → (i < n) ⊎ (n ≤ i)
-            below_or_not i = cases_lt i n
+use Rattle.gluing.specs.Polygons.{no_vector, zero_of, side_at, side_after, corner}
+use Rattle.ear_cut.specs.Cuttings.{chord_at, replaced, HasPositiveCorner, IsEar, IsLeastEar}
+use Rattle.ear_cut.specs.Cuttable.{IsCuttable}
+use Rattle.ear_cut.specs.Steps.{chord_corner}
+use Rattle.ear_cut.proofs.Rotations.{IsRotated, rotated_back, rotated-length, rotated_at, IsReplacedAt, replaced_at}
+use Rattle.ear_cut.proofs.Replaced.{each_at}
+use Rattle.ear_cut.proofs.Corners.{positive_rotated, positive_first}
+use Rattle.ear_cut.proofs.Turning.{NN, total_merged, det_closed_second, det_closed_third, convex_merged}
+use Rattle.ear_cut.proofs.Parallel.{Parallel, parallel_turned, parallel_trans, parallel_part, all_parallel}
+use Rattle.ear_cut.proofs.Convex.{ring, order, Convex, total_is, never_right, convex_of, positive_or_not, positive_from, zero_from, positive_nonzero, some_or_none, first_below, cuttable_rotated}
 
 module _ (d : ℕ) (field : IsFieldNumber d) where
-  abbrev O : Ops Quad
-  O = quad_ops d
-
-  ring : IsRing (quad_ops d)
-  ring = quad_ring d
-
-  order : IsOrdered (quad_ops d) (IsPositive d)
-  order = quad_order d field.2 field.0
-
   abbrev Vec : Type 0
   Vec = Vector Quad
 
-  -- none of the vectors is zero
-  abbrev AllNonzero : List Vec → Type 0
-  AllNonzero l = AllByRecursion (λ v. ¬ (v ≡ no_vector d)) l
+  abbrev O : Ops Quad
+  O = quad_ops d
 
-  -- in convex position
-  abbrev Convex : List Vec → Type 0
-  Convex l = InConvexPosition O ring order l
+  abbrev L : IsRing (quad_ops d)
+  L = ring d field
 
-  total_is : (l : List Vec) → total O ring order l ≡ sum_of d l
-  total_is [] = refl
-  total_is (v ∷ l) = ap (vector_sum O v) (total_is l)
+  abbrev Q : IsOrdered (quad_ops d) (IsPositive d)
+  Q = order d field
 
-  never_right : (l : List Vec) → Convex l → NeverTurnsRight d l
-  never_right l convex a x y b e n =
-      not_negative O ring order _ (convex a x y b e) (subst (λ u. IsPositive d (O.neg (det O u (total O ring order y)))) (sym (total_is x))
-      (subst (λ v. IsPositive d (O.neg (det O (sum_of d x) v))) (sym (total_is y)) n))
+  -- ---- a polygon that can be cut, begun with two sides u and v that turn to the left
+  module _ (u v : Vec) (rest : List Vec) (cuttable : IsCuttable d (u ∷ v ∷ rest)) (turns : IsPositive d (det (quad_ops d) u v)) where
+    -- the chord
+    abbrev w : Vec
+    w = vector_sum O u v
 
-  convex_of : (l : List Vec) → NeverTurnsRight d l → Convex l
-  convex_of l never a x y b e =
-      nn_of O ring order _ (λ n. never a x y b e (subst (λ u. IsPositive d (O.neg (det O u (sum_of d y)))) (total_is x)
-      (subst (λ v. IsPositive d (O.neg (det O (total O ring order x) v))) (total_is y) n)))
+    convex : Convex d field (u ∷ v ∷ rest)
+    convex = convex_of d field (u ∷ v ∷ rest) cuttable.left
 
-  -- two sides, one after the other
-  adjacent : (l : List Vec) → Convex l → (p q : List Vec) (u v : Vec) → l ≡ p ++ (u ∷ v ∷ q) → NN O ring order (det O u v)
-  adjacent l convex p q u v e =
-      subst (NN O ring order)
-      (identity O ring (u.0 ∷ u.1 ∷ v.0 ∷ v.1 ∷ []) (det expr (expr.add (var 0) (expr.int (pos 0)), expr.add (var 1) (expr.int (pos 0))) (expr.add (var 2) (expr.int (pos 0)), expr.add (var 3) (expr.int (pos 0))))
+    -- u and v aren't opposite
+    chord_nonzero : ¬ (w ≡ no_vector d)
+    chord_nonzero e =
+        positive_nonzero d field (det O u v) turns (
+        identity O L (u.0 ∷ u.1 ∷ v.0 ∷ v.1 ∷ []) (det expr (var 0, var 1) (var 2, var 3)) (det expr (var 0, var 1) (expr.add (var 0) (var 2), expr.add (var 1) (var 3))) tt
+        ∙ ap (det O u) e
+        ∙ identity O L (u.0 ∷ u.1 ∷ []) (det expr (var 0, var 1) (expr.int (pos 0), expr.int (pos 0))) (expr.int (pos 0)) tt
+        )
+
+    left_convex : Convex d field (w ∷ rest)
+    left_convex = convex_merged O L Q [] rest u v convex
+
+    -- what is left can be cut, where some corner of it is positive
+    pub left_cuttable : HasPositiveCorner d (w ∷ rest) → IsCuttable d (w ∷ rest)
+    left_cuttable some = record {
+      closed = sym (total_is d field (w ∷ rest)) ∙ sym (total_merged O L Q [] rest u v) ∙ total_is d field (u ∷ v ∷ rest) ∙ cuttable.closed;
+      nonzero = (chord_nonzero, cuttable.nonzero.1.1);
+      left = never_right d field (w ∷ rest) left_convex;
+      some = some;
+    }
+
+  -- two vectors, one after the other, in a list in convex position
+  next_not_right : (u v : Vec) (rest : List Vec) → Convex d field (u ∷ v ∷ rest) → NN O L Q (det O u v)
+  next_not_right u v rest convex =
+      subst (NN O L Q)
+      (identity O L (u.0 ∷ u.1 ∷ v.0 ∷ v.1 ∷ []) (det expr (expr.add (var 0) (expr.int (pos 0)), expr.add (var 1) (expr.int (pos 0))) (expr.add (var 2) (expr.int (pos 0)), expr.add (var 3) (expr.int (pos 0))))
       (det expr (var 0, var 1) (var 2, var 3)) tt)
-      (convex p (u ∷ []) (v ∷ []) q e)
+      (convex [] (u ∷ []) (v ∷ []) rest refl)
 
-  -- and round the end
-  adjacent_seam : (v : Vec) (m : List Vec) (u : Vec) → Convex (v ∷ (m ++ (u ∷ []))) → total O ring order (v ∷ (m ++ (u ∷ []))) ≡ no_vector d → NN O ring order (det O u v)
-  adjacent_seam v m u convex closed =
-      adjacent ((m ++ (u ∷ [])) ++ (v ∷ [])) (convex_turned O ring order (v ∷ []) (m ++ (u ∷ [])) closed convex) m [] u v (append_assoc m (u ∷ []) (v ∷ []))
+  -- a list of parallel vectors has no positive corner
+  none_positive : (y : Vec) (l : List Vec) → ¬ (y ≡ no_vector d) → AllByRecursion (Parallel O L Q y) l → ¬ (HasPositiveCorner d l)
+  none_positive y l nonzero all (i, below, positive) =
+      let a = side_at d l i in
+      let b = side_after d l i in
+      let first : Parallel O L Q y a = each_at (Parallel O L Q y) l i (no_vector d) all below in
+      let second : Parallel O L Q y b = each_at (Parallel O L Q y) l ((i + 1) % length l) (no_vector d) all (mod-lt (i + 1) (omega arith)) in
+      positive_nonzero d field (corner d l i) positive (parallel_trans O L Q a y b nonzero (parallel_turned O L Q y a first) second)
 
-  positive_or_not : (x : Quad) → IsPositive d x ⊎ ¬ (IsPositive d x)
-  positive_or_not x = go (order.sign x)
-    where
-      go : Sign (quad_ops d) (IsPositive d) x → IsPositive d x ⊎ ¬ (IsPositive d x)
-      go (is_zero e) = inr (λ p. order.zero_is_not (subst (IsPositive d) e p))
-      go (is_positive p) = inl p
-      go (is_negative n) = inr (λ p. not_both_signs O ring order x p n)
+  module _ (u v y : Vec) (rest : List Vec) (cuttable : IsCuttable d (u ∷ v ∷ y ∷ rest)) (turns : IsPositive d (det (quad_ops d) u v)) where
+    abbrev chord : Vec
+    chord = vector_sum O u v
 
-  -- not negative, and not zero
-  positive_from : (x : Quad) → NN O ring order x → ¬ (x ≡ zero_of d) → IsPositive d x
-  positive_from x (inl e) nonzero = absurd (nonzero e)
-  positive_from x (inr p) nonzero = p
+    y_nonzero : ¬ (y ≡ no_vector d)
+    y_nonzero = cuttable.nonzero.1.1.0
 
-  zero_from : (x : Quad) → NN O ring order x → ¬ (IsPositive d x) → x ≡ zero_of d
-  zero_from x (inl e) not = e
-  zero_from x (inr p) not = absurd (not p)
+    all_convex : Convex d field (u ∷ v ∷ y ∷ rest)
+    all_convex = convex_of d field (u ∷ v ∷ y ∷ rest) cuttable.left
 
-  positive_nonzero : (x : Quad) → IsPositive d x → ¬ (x ≡ zero_of d)
-  positive_nonzero x p e = order.zero_is_not (subst (IsPositive d) e p)
+    -- v turns to the right into the chord
+    back : IsPositive d (O.neg (det O v chord))
+    back =
+        subst (IsPositive d) (identity O L (u.0 ∷ u.1 ∷ v.0 ∷ v.1 ∷ [])
+        (det expr (var 0, var 1) (var 2, var 3)) (expr.neg (det expr (var 2, var 3) (expr.add (var 0) (var 2), expr.add (var 1) (var 3)))) tt) turns
 
-  -- ---- positive corners and ears, by where the list is split
-  positive_inner : (p q : List Vec) (u v : Vec) → IsPositive d (det O u v) → HasPositiveCorner d (p ++ (u ∷ v ∷ q))
-  positive_inner p q u v h = (length p, omega (arith, length-append p (u ∷ v ∷ q)), subst (IsPositive d) (sym (corner_inner d p q u v)) h)
+    second_not_right : NN O L Q (det O v y)
+    second_not_right =
+        subst (NN O L Q)
+        (identity O L (v.0 ∷ v.1 ∷ y.0 ∷ y.1 ∷ []) (det expr (expr.add (var 0) (expr.int (pos 0)), expr.add (var 1) (expr.int (pos 0))) (expr.add (var 2) (expr.int (pos 0)), expr.add (var 3) (expr.int (pos 0))))
+        (det expr (var 0, var 1) (var 2, var 3)) tt)
+        (all_convex (u ∷ []) (v ∷ []) (y ∷ []) rest refl)
 
-  positive_seam : (m : List Vec) (u v : Vec) → IsPositive d (det O u v) → HasPositiveCorner d (v ∷ (m ++ (u ∷ [])))
-  positive_seam m u v h = (suc (length m), omega (arith, length_push m u), subst (IsPositive d) (sym (corner_seam d m u v)) h)
+    left_is_convex : Convex d field (chord ∷ y ∷ rest)
+    left_is_convex = left_convex u v (y ∷ rest) cuttable turns
 
-  chord_inner : (p q : List Vec) (u v : Vec) → chord_at d (p ++ (u ∷ v ∷ q)) (length p) ≡ vector_sum O u v
-  chord_inner p q u v =
-      ap (λ w. vector_sum O w (side_after d (p ++ (u ∷ v ∷ q)) (length p))) (at_inner d p q u v) ∙ ap (vector_sum O u) (after_inner d p q u v)
+    -- where the chord doesn't turn to the left into the side behind it, all that is left is parallel
+    flat : ¬ (IsPositive d (det O chord y)) → AllByRecursion (Parallel O L Q y) (chord ∷ y ∷ rest)
+    flat not =
+        all_parallel O L Q v chord y rest second_not_right back
+        (zero_from d field (det O chord y) (next_not_right chord y rest left_is_convex) not) left_is_convex
 
-  chord_seam : (m : List Vec) (u v : Vec) → chord_at d (v ∷ (m ++ (u ∷ []))) (suc (length m)) ≡ vector_sum O u v
-  chord_seam m u v =
-      ap (λ w. vector_sum O w (side_after d (v ∷ (m ++ (u ∷ []))) (suc (length m)))) (at_seam d m u v) ∙ ap (vector_sum O u) (after_seam d m u v)
+    -- a positive corner is left exactly where the chord turns to the left into the side behind it
+    pub chord_turns : HasPositiveCorner d (chord ∷ y ∷ rest) → IsPositive d (det O chord y)
+    chord_turns some = elim (positive_or_not d field (det O chord y)) [
+      | inl positive ↦ positive
+      | inr not ↦ absurd (none_positive y (chord ∷ y ∷ rest) y_nonzero (flat not) some)
+    ]
 
-  left_inner : (p q : List Vec) (u v : Vec) → replaced (p ++ (u ∷ v ∷ q)) (length p) (chord_at d (p ++ (u ∷ v ∷ q)) (length p)) ≡ p ++ (vector_sum O u v ∷ q)
-  left_inner p q u v = ap (replaced (p ++ (u ∷ v ∷ q)) (length p)) (chord_inner p q u v) ∙ replaced_inner p q u v (vector_sum O u v)
+  -- else the next corner is an ear
+  module _ (u v y z : Vec) (rest : List Vec) (cuttable : IsCuttable d (u ∷ v ∷ y ∷ z ∷ rest)) (turns : IsPositive d (det (quad_ops d) u v)) (not : ¬ (IsPositive d (det (quad_ops d) (vector_sum (quad_ops d) u v) y))) where
+    abbrev merged : Vec
+    merged = vector_sum O u v
 
-  left_seam : (m : List Vec) (u v : Vec) → replaced (v ∷ (m ++ (u ∷ []))) (suc (length m)) (chord_at d (v ∷ (m ++ (u ∷ []))) (suc (length m))) ≡ m ++ (vector_sum O u v ∷ [])
-  left_seam m u v = ap (replaced (v ∷ (m ++ (u ∷ []))) (suc (length m))) (chord_seam m u v) ∙ replaced_seam m u v (vector_sum O u v)
+    parallel : AllByRecursion (Parallel O L Q y) (merged ∷ y ∷ z ∷ rest)
+    parallel = flat u v y (z ∷ rest) cuttable turns not
 
-  -- some corner is an ear
-  abbrev HasEar : List Vec → Type 0
-  HasEar l = (i : ℕ) × IsEar d l i
+    -- a vector that is parallel to y isn't parallel to v
+    not_parallel : (x : Vec) → ¬ (x ≡ no_vector d) → Parallel O L Q y x → ¬ (det O v x ≡ zero_of d)
+    not_parallel x nonzero along e =
+        positive_nonzero d field (det O u v) turns
+        (parallel_part O L Q u v x nonzero
+        (parallel_trans O L Q x y merged cuttable.nonzero.1.1.0 (parallel_turned O L Q y x along) parallel.0)
+        (parallel_turned O L Q v x e))
 
-  ear_inner : (p q : List Vec) (u v : Vec) → IsPositive d (det O u v) → HasPositiveCorner d (p ++ (vector_sum O u v ∷ q)) → HasEar (p ++ (u ∷ v ∷ q))
-  ear_inner p q u v h some = (
-    length p,
-    (
-      omega (arith, length-append p (u ∷ v ∷ q)),
-      subst (IsPositive d) (sym (corner_inner d p q u v)) h,
-      subst (HasPositiveCorner d) (sym (left_inner p q u v)) some,
-    ),
-  )
+    pub next_turns : IsPositive d (det O v y)
+    next_turns =
+        positive_from d field (det O v y) (second_not_right u v y (z ∷ rest) cuttable turns) (not_parallel y cuttable.nonzero.1.1.0 parallel.1.0)
 
-  ear_seam : (m : List Vec) (u v : Vec) → IsPositive d (det O u v) → HasPositiveCorner d (m ++ (vector_sum O u v ∷ [])) → HasEar (v ∷ (m ++ (u ∷ [])))
-  ear_seam m u v h some = (
-    suc (length m),
-    (
-      omega (arith, length_push m u),
-      subst (IsPositive d) (sym (corner_seam d m u v)) h,
-      subst (HasPositiveCorner d) (sym (left_seam m u v)) some,
-    ),
-  )
+    pub next_chord_turns : IsPositive d (det O (vector_sum O v y) z)
+    next_chord_turns = positive_from d field (det O (vector_sum O v y) z) nn (λ e. not_parallel z cuttable.nonzero.1.1.1.0 parallel.1.1.0 (sym (same ∙ alone) ∙ e))
+      where
+        nn : NN O L Q (det O (vector_sum O v y) z)
+        nn =
+            subst (NN O L Q)
+            (identity O L (v.0 ∷ v.1 ∷ y.0 ∷ y.1 ∷ z.0 ∷ z.1 ∷ [])
+            (det expr (expr.add (var 0) (expr.add (var 2) (expr.int (pos 0))), expr.add (var 1) (expr.add (var 3) (expr.int (pos 0)))) (expr.add (var 4) (expr.int (pos 0)), expr.add (var 5) (expr.int (pos 0))))
+            (det expr (expr.add (var 0) (var 2), expr.add (var 1) (var 3)) (var 4, var 5)) tt)
+            (all_convex u v y (z ∷ rest) cuttable turns (u ∷ []) (v ∷ y ∷ []) (z ∷ []) rest refl)
 
-  some_or_none : (l : List Vec) → HasPositiveCorner d l ⊎ ((i : ℕ) → i < length l → ¬ (IsPositive d (corner d l i)))
-  some_or_none l = search_below (λ i. IsPositive d (corner d l i)) (λ i. positive_or_not (corner d l i)) (length l)
+        same : det O (vector_sum O v y) z ≡ O.add (det O v z) (det O y z)
+        same = identity O L (v.0 ∷ v.1 ∷ y.0 ∷ y.1 ∷ z.0 ∷ z.1 ∷ [])
+            (det expr (expr.add (var 0) (var 2), expr.add (var 1) (var 3)) (var 4, var 5))
+            (expr.add (det expr (var 0, var 1) (var 4, var 5)) (det expr (var 2, var 3) (var 4, var 5))) tt
 
-  -- a list in convex position without a positive corner: all its vectors are parallel
-  flat_parallel : (f : Vec) (l : List Vec) → Convex (f ∷ l) → AllNonzero (f ∷ l) → ((i : ℕ) → i < length (f ∷ l) → ¬ (IsPositive d (corner d (f ∷ l) i)))
-      → AllByRecursion (Parallel O ring order f) (f ∷ l)
-  flat_parallel f l convex nonzero none = (
-    parallel_self O ring order f,
-    all_parallel O ring order f f l nonzero.0 nonzero.1 (parallel_self O ring order f) (λ a x y b e.
-        zero_from (det O x y) (adjacent (f ∷ l) convex a b x y e)
-        (λ h. none (length a) (omega (arith, ap length e, length-append a (x ∷ y ∷ b)))
-        (subst (λ z. IsPositive d (corner d z (length a))) (sym e) (subst (IsPositive d) (sym (corner_inner d a b x y)) h)))
-        ),
-  )
-
-  -- any two of them
-  flat_pair : (l : List Vec) → Convex l → AllNonzero l → ((i : ℕ) → i < length l → ¬ (IsPositive d (corner d l i)))
-      → (a b : List Vec) (x : Vec) → l ≡ a ++ (x ∷ b) → (a' b' : List Vec) (y : Vec) → l ≡ a' ++ (y ∷ b') → Parallel O ring order x y
-  flat_pair [] convex nonzero none a b x e a' b' y e' = absurd (omega (arith, ap length e, length-append a (x ∷ b)))
-  flat_pair (f ∷ l) convex nonzero none a b x e a' b' y e' =
-      let all = flat_parallel f l convex nonzero none in
-      parallel_trans O ring order x f y nonzero.0
-      (parallel_turned O ring order f x (all_second (Parallel O ring order f) a (x ∷ b) (subst (AllByRecursion (Parallel O ring order f)) e all)).0)
-      (all_second (Parallel O ring order f) a' (y ∷ b') (subst (AllByRecursion (Parallel O ring order f)) e' all)).0
-
-  -- ---- an ear
-  -- u and v with a positive determinant aren't zero together, nor parallel
-  sum_nonzero : (u v : Vec) → IsPositive d (det O u v) → ¬ (vector_sum O u v ≡ no_vector d)
-  sum_nonzero u v h e =
-      positive_nonzero (det O u v) h (
-      identity O ring (u.0 ∷ u.1 ∷ v.0 ∷ v.1 ∷ []) (det expr (var 0, var 1) (var 2, var 3)) (det expr (var 0, var 1) (expr.add (var 0) (var 2), expr.add (var 1) (var 3))) tt
-      ∙ ap (det O u) e
-      ∙ identity O ring (u.0 ∷ u.1 ∷ []) (det expr (var 0, var 1) (expr.int (pos 0), expr.int (pos 0))) (expr.int (pos 0)) tt
-      )
-
-  -- where cutting at u and v leaves nothing but parallel sides, the next two sides turn to the left
-  next_positive : (u v w : Vec) → IsPositive d (det O u v) → ¬ (w ≡ no_vector d) → Parallel O ring order w (vector_sum O u v) → NN O ring order (det O v w) → IsPositive d (det O v w)
-  next_positive u v w h nonzero flat nn =
-      positive_from (det O v w) nn (λ e. positive_nonzero (det O u v) h (parallel_part O ring order u v w nonzero flat (parallel_turned O ring order v w e)))
-
-  -- and the two before them too
-  before_positive : (z u v : Vec) → IsPositive d (det O u v) → ¬ (z ≡ no_vector d) → Parallel O ring order z (vector_sum O u v) → NN O ring order (det O z u) → IsPositive d (det O z u)
-  before_positive z u v h nonzero flat nn =
-      positive_from (det O z u) nn (λ e. positive_nonzero (det O u v) h (parallel_other_part O ring order u v z nonzero flat e))
-
-  -- what is left after a cut at u and v
-  left_convex : (p q : List Vec) (u v : Vec) → Convex (p ++ (u ∷ v ∷ q)) → Convex (p ++ (vector_sum O u v ∷ q))
-  left_convex p q u v convex = convex_merged O ring order p q u v convex
-
-  left_nonzero : (p q : List Vec) (u v : Vec) → IsPositive d (det O u v) → AllNonzero (p ++ (u ∷ v ∷ q)) → AllNonzero (p ++ (vector_sum O u v ∷ q))
-  left_nonzero p q u v h nonzero =
-      let N : Vec → Type 0 = λ v. ¬ (v ≡ no_vector d) in
-      all_both N p (vector_sum O u v ∷ q) (all_first N p (u ∷ v ∷ q) nonzero) (sum_nonzero u v h, (all_second N p (u ∷ v ∷ q) nonzero).1.1)
-
-  -- one of the vectors isn't zero
-  one_nonzero : (l : List Vec) → AllNonzero l → (p : List Vec) (v : Vec) (q : List Vec) → l ≡ p ++ (v ∷ q) → ¬ (v ≡ no_vector d)
-  one_nonzero l nonzero p v q e = (all_second (λ v. ¬ (v ≡ no_vector d)) p (v ∷ q) (subst AllNonzero e nonzero)).0
-
-  convex_seam : (v : Vec) (m : List Vec) (u : Vec) → Convex (v ∷ (m ++ (u ∷ []))) → total O ring order (v ∷ (m ++ (u ∷ []))) ≡ no_vector d → Convex (m ++ (u ∷ v ∷ []))
-  convex_seam v m u convex closed =
-      subst Convex (append_assoc m (u ∷ []) (v ∷ [])) (convex_turned O ring order (v ∷ []) (m ++ (u ∷ [])) closed convex)
-
-  nonzero_seam : (v : Vec) (m : List Vec) (u : Vec) → AllNonzero (v ∷ (m ++ (u ∷ []))) → AllNonzero (m ++ (u ∷ v ∷ []))
-  nonzero_seam v m u nonzero =
-      let N : Vec → Type 0 = λ v. ¬ (v ≡ no_vector d) in
-      all_both N m (u ∷ v ∷ []) (all_first N m (u ∷ []) nonzero.1) ((all_second N m (u ∷ []) nonzero.1).0, (nonzero.0, tt))
-
-  -- a cut inside the list that leaves no positive corner: the next corner is an ear
-  next_ear_inner : (p q : List Vec) (u v : Vec) → 4 ≤ length (p ++ (u ∷ v ∷ q)) → Convex (p ++ (u ∷ v ∷ q)) → AllNonzero (p ++ (u ∷ v ∷ q)) → total O ring order (p ++ (u ∷ v ∷ q)) ≡ no_vector d
-      → IsPositive d (det O u v)
-      → ((i : ℕ) → i < length (p ++ (vector_sum O u v ∷ q)) → ¬ (IsPositive d (corner d (p ++ (vector_sum O u v ∷ q)) i)))
-      → HasEar (p ++ (u ∷ v ∷ q))
-  next_ear_inner p (y ∷ q) u v long convex nonzero closed h none = go p q refl refl
-    where
-      flat : (a b : List Vec) (x : Vec) → p ++ (vector_sum O u v ∷ y ∷ q) ≡ a ++ (x ∷ b) → Parallel O ring order x (vector_sum O u v)
-      flat a b x e =
-          flat_pair (p ++ (vector_sum O u v ∷ y ∷ q)) (left_convex p (y ∷ q) u v convex) (left_nonzero p (y ∷ q) u v h nonzero) none a b x e p (y ∷ q) (vector_sum O u v) refl
-
-      y_nonzero : ¬ (y ≡ no_vector d)
-      y_nonzero = one_nonzero (p ++ (u ∷ v ∷ y ∷ q)) nonzero (p ++ (u ∷ v ∷ [])) y q (sym (append_assoc p (u ∷ v ∷ []) (y ∷ q)))
-
-      turn : IsPositive d (det O v y)
-      turn =
-          next_positive u v y h y_nonzero (flat (p ++ (vector_sum O u v ∷ [])) q y (sym (append_assoc p (vector_sum O u v ∷ []) (y ∷ q))))
-          (adjacent (p ++ (u ∷ v ∷ y ∷ q)) convex (p ++ (u ∷ [])) q v y (sym (append_assoc p (u ∷ []) (v ∷ y ∷ q))))
-
-      ear : HasPositiveCorner d ((p ++ (u ∷ [])) ++ (vector_sum O v y ∷ q)) → HasEar (p ++ (u ∷ v ∷ y ∷ q))
-      ear some = subst HasEar (append_assoc p (u ∷ []) (v ∷ y ∷ q)) (ear_inner (p ++ (u ∷ [])) q v y turn some)
-
-      go : (p' q' : List Vec) → p ≡ p' → q ≡ q' → HasEar (p ++ (u ∷ v ∷ y ∷ q))
-      go [] [] e k = absurd (omega (arith, long, length-append p (u ∷ v ∷ y ∷ q), ap length e, ap length k))
-      go [] (x ∷ q') e k =
-          let last = last_of x q' in
-          let q_is : q ≡ last.0 ++ (last.1 ∷ []) = k ∙ last.2 in
-          let z = last.1 in
-          let z_nonzero : ¬ (z ≡ no_vector d) =
-          one_nonzero (p ++ (u ∷ v ∷ y ∷ q)) nonzero (p ++ (u ∷ v ∷ y ∷ last.0)) z [] (ap (λ s. p ++ (u ∷ v ∷ y ∷ s)) q_is ∙ sym (append_assoc p (u ∷ v ∷ y ∷ last.0) (z ∷ []))) in
-          let whole : p ++ (u ∷ v ∷ y ∷ q) ≡ u ∷ ((v ∷ y ∷ last.0) ++ (z ∷ [])) = ap (λ s. s ++ (u ∷ v ∷ y ∷ q)) e ∙ ap (λ s. u ∷ v ∷ y ∷ s) q_is in
-          let corner : IsPositive d (det O z u) =
-          before_positive z u v h z_nonzero
-          (flat (p ++ (vector_sum O u v ∷ y ∷ last.0)) [] z (ap (λ s. p ++ (vector_sum O u v ∷ y ∷ s)) q_is ∙ sym (append_assoc p (vector_sum O u v ∷ y ∷ last.0) (z ∷ []))))
-          (adjacent_seam u (v ∷ y ∷ last.0) z (subst Convex whole convex) (ap (total O ring order) (sym whole) ∙ closed)) in
-          ear (subst (HasPositiveCorner d)
-          (sym (ap (λ s. (s ++ (u ∷ [])) ++ (vector_sum O v y ∷ q)) e ∙ ap (λ s. u ∷ vector_sum O v y ∷ s) q_is))
-          (positive_seam (vector_sum O v y ∷ last.0) z u corner))
-      go (x ∷ p') q' e k =
-          let last = last_of x p' in
-          let p_is : p ≡ last.0 ++ (last.1 ∷ []) = e ∙ last.2 in
-          let z = last.1 in
-          let split : (s : List Vec) → p ++ s ≡ last.0 ++ (z ∷ s) = λ s. ap (λ t. t ++ s) p_is ∙ append_assoc last.0 (z ∷ []) s in
-          let z_nonzero : ¬ (z ≡ no_vector d) = one_nonzero (p ++ (u ∷ v ∷ y ∷ q)) nonzero last.0 z (u ∷ v ∷ y ∷ q) (split (u ∷ v ∷ y ∷ q)) in
-          let corner : IsPositive d (det O z u) =
-          before_positive z u v h z_nonzero
-          (flat last.0 (vector_sum O u v ∷ y ∷ q) z (split (vector_sum O u v ∷ y ∷ q)))
-          (adjacent (p ++ (u ∷ v ∷ y ∷ q)) convex last.0 (v ∷ y ∷ q) z u (split (u ∷ v ∷ y ∷ q))) in
-          ear (subst (HasPositiveCorner d)
-          (sym (append_assoc p (u ∷ []) (vector_sum O v y ∷ q) ∙ split (u ∷ vector_sum O v y ∷ q)))
-          (positive_inner last.0 (vector_sum O v y ∷ q) z u corner))
-  next_ear_inner [] [] u v long convex nonzero closed h none = absurd (omega (arith, long))
-  next_ear_inner (y ∷ []) [] u v long convex nonzero closed h none = absurd (omega (arith, long))
-  next_ear_inner (y ∷ x ∷ p) [] u v long convex nonzero closed h none =
-      let last = last_of x p in
-      let z = last.1 in
-      let split : (s : List Vec) → x ∷ (p ++ s) ≡ last.0 ++ (z ∷ s) = λ s. ap (λ t. t ++ s) last.2 ∙ append_assoc last.0 (z ∷ []) s in
-      let flat : (a b : List Vec) (t : Vec) → y ∷ x ∷ (p ++ (vector_sum O u v ∷ [])) ≡ a ++ (t ∷ b) → Parallel O ring order t (vector_sum O u v) =
-      λ a b t e. flat_pair (y ∷ x ∷ (p ++ (vector_sum O u v ∷ []))) (left_convex (y ∷ x ∷ p) [] u v convex) (left_nonzero (y ∷ x ∷ p) [] u v h nonzero) none a b t e (y ∷ x ∷ p) [] (vector_sum O u v) refl in
-      let seam : y ∷ x ∷ (p ++ (u ∷ v ∷ [])) ≡ y ∷ ((x ∷ (p ++ (u ∷ []))) ++ (v ∷ [])) = ap (λ s. y ∷ x ∷ s) (sym (append_assoc p (u ∷ []) (v ∷ []))) in
-      let turn : IsPositive d (det O v y) =
-      next_positive u v y h nonzero.0 (flat [] (x ∷ (p ++ (vector_sum O u v ∷ []))) y refl)
-      (adjacent_seam y (x ∷ (p ++ (u ∷ []))) v (subst Convex seam convex) (ap (total O ring order) (sym seam) ∙ closed)) in
-      let z_nonzero : ¬ (z ≡ no_vector d) = one_nonzero (y ∷ x ∷ (p ++ (u ∷ v ∷ []))) nonzero (y ∷ last.0) z (u ∷ v ∷ []) (ap (λ s. y ∷ s) (split (u ∷ v ∷ []))) in
-      let corner : IsPositive d (det O z u) =
-      before_positive z u v h z_nonzero (flat (y ∷ last.0) (vector_sum O u v ∷ []) z (ap (λ s. y ∷ s) (split (vector_sum O u v ∷ []))))
-      (adjacent (y ∷ x ∷ (p ++ (u ∷ v ∷ []))) convex (y ∷ last.0) (v ∷ []) z u (ap (λ s. y ∷ s) (split (u ∷ v ∷ [])))) in
-      subst HasEar (sym seam) (ear_seam (x ∷ (p ++ (u ∷ []))) v y turn
-      (subst (HasPositiveCorner d) (sym (ap (λ s. x ∷ s) (append_assoc p (u ∷ []) (vector_sum O v y ∷ [])) ∙ split (u ∷ vector_sum O v y ∷ [])))
-      (positive_inner last.0 (vector_sum O v y ∷ []) z u corner)))
-
-  -- a cut at the seam that leaves no positive corner: the first corner is an ear
-  next_ear_seam : (v : Vec) (m : List Vec) (u : Vec) → 4 ≤ length (v ∷ (m ++ (u ∷ []))) → Convex (v ∷ (m ++ (u ∷ []))) → AllNonzero (v ∷ (m ++ (u ∷ []))) → total O ring order (v ∷ (m ++ (u ∷ []))) ≡ no_vector d
-      → IsPositive d (det O u v)
-      → ((i : ℕ) → i < length (m ++ (vector_sum O u v ∷ [])) → ¬ (IsPositive d (corner d (m ++ (vector_sum O u v ∷ [])) i)))
-      → HasEar (v ∷ (m ++ (u ∷ [])))
-  next_ear_seam v [] u long convex nonzero closed h none = absurd (omega (arith, long))
-  next_ear_seam v (y ∷ []) u long convex nonzero closed h none = absurd (omega (arith, long))
-  next_ear_seam v (y ∷ x ∷ m) u long convex nonzero closed h none =
-      let last = last_of x m in
-      let z = last.1 in
-      let split : (s : List Vec) → x ∷ (m ++ s) ≡ last.0 ++ (z ∷ s) = λ s. ap (λ t. t ++ s) last.2 ∙ append_assoc last.0 (z ∷ []) s in
-      let rest_convex : Convex (y ∷ x ∷ (m ++ (vector_sum O u v ∷ []))) = left_convex (y ∷ x ∷ m) [] u v (convex_seam v (y ∷ x ∷ m) u convex closed) in
-      let rest_nonzero : AllNonzero (y ∷ x ∷ (m ++ (vector_sum O u v ∷ []))) = left_nonzero (y ∷ x ∷ m) [] u v h (nonzero_seam v (y ∷ x ∷ m) u nonzero) in
-      let flat : (a b : List Vec) (t : Vec) → y ∷ x ∷ (m ++ (vector_sum O u v ∷ [])) ≡ a ++ (t ∷ b) → Parallel O ring order t (vector_sum O u v) =
-      λ a b t e. flat_pair (y ∷ x ∷ (m ++ (vector_sum O u v ∷ []))) rest_convex rest_nonzero none a b t e (y ∷ x ∷ m) [] (vector_sum O u v) refl in
-      let turn : IsPositive d (det O v y) =
-      next_positive u v y h nonzero.1.0 (flat [] (x ∷ (m ++ (vector_sum O u v ∷ []))) y refl)
-      (adjacent (v ∷ y ∷ x ∷ (m ++ (u ∷ []))) convex [] (x ∷ (m ++ (u ∷ []))) v y refl) in
-      let z_nonzero : ¬ (z ≡ no_vector d) = one_nonzero (v ∷ y ∷ x ∷ (m ++ (u ∷ []))) nonzero (v ∷ y ∷ last.0) z (u ∷ []) (ap (λ s. v ∷ y ∷ s) (split (u ∷ []))) in
-      let corner : IsPositive d (det O z u) =
-      before_positive z u v h z_nonzero (flat (y ∷ last.0) (vector_sum O u v ∷ []) z (ap (λ s. y ∷ s) (split (vector_sum O u v ∷ []))))
-      (adjacent (v ∷ y ∷ x ∷ (m ++ (u ∷ []))) convex (v ∷ y ∷ last.0) [] z u (ap (λ s. v ∷ y ∷ s) (split (u ∷ [])))) in
-      ear_inner [] (x ∷ (m ++ (u ∷ []))) v y turn
-      (subst (HasPositiveCorner d) (sym (ap (λ s. vector_sum O v y ∷ s) (split (u ∷ []))))
-      (positive_inner (vector_sum O v y ∷ last.0) [] z u corner))
+        alone : O.add (det O v z) (det O y z) ≡ det O v z
+        alone = ap (O.add (det O v z)) parallel.1.1.0 ∙ identity O L (det O v z ∷ []) (expr.add (var 0) (expr.int (pos 0))) (var 0) tt
 
   -- ---- what the crate rests on
-  -- while there are more than three sides, there is an ear
-  pub some_ear : (sides : List Vec) → 4 ≤ length sides → IsCuttable d sides → (i : ℕ) × IsEar d sides i
-  some_ear sides long cuttable = go (inner_or_seam sides cuttable.some.0 (omega (arith, long)) cuttable.some.1)
-    where
-      convex : Convex sides
-      convex = convex_of sides cuttable.left
+  module _ (sides : List Vec) (long : 4 ≤ length sides) (cuttable : IsCuttable d sides) where
+    abbrev n : ℕ
+    n = length sides
 
-      closed : total O ring order sides ≡ no_vector d
-      closed = total_is sides ∙ cuttable.closed
+    abbrev S : ℕ → Vec
+    S i = side_at d sides i
 
-      inner : (p q : List Vec) (u v : Vec) → sides ≡ p ++ (u ∷ v ∷ q) → IsPositive d (det O u v) → HasEar sides
-      inner p q u v e h = elim (some_or_none (p ++ (vector_sum O u v ∷ q))) [
-        | inl some ↦ subst HasEar (sym e) (ear_inner p q u v h some)
-        | inr none ↦ subst HasEar (sym e)
-            (next_ear_inner p q u v (subst (λ s. 4 ≤ length s) e long) (subst Convex e convex) (subst AllNonzero e cuttable.nonzero) (ap (total O ring order) (sym e) ∙ closed) h none)
+    -- the sides from side i on, round the end: two of them, and two more
+    record AtCorner (i : ℕ) : Type 0 where
+      third : Vec
+      fourth : Vec
+      rest : List Vec
+      whole : IsRotated sides (S i ∷ side_after d sides i ∷ third ∷ fourth ∷ rest)
+      left : IsRotated (replaced sides i (chord_at d sides i)) (chord_at d sides i ∷ third ∷ fourth ∷ rest)
+      third_is : third ≡ side_after d sides ((i + 1) % n)
+      fourth_is : fourth ≡ side_after d sides (((i + 1) % n + 1) % n)
+
+    at_corner : (i : ℕ) → i < n → AtCorner i
+    at_corner i below = split (replaced_at sides i (no_vector d) (chord_at d sides i) below (omega arith))
+      where
+        split : IsReplacedAt sides i (S i) (side_after d sides i) (chord_at d sides i) (replaced sides i (chord_at d sides i)) → AtCorner i
+        split at = go at.parts.rest refl
+          where
+            long_rest : length at.parts.rest + 2 ≡ n
+            long_rest = omega (arith, rotated-length sides _ at.parts.whole)
+
+            -- element k + 2 of the list that begins at side i
+            side_is : (r : List Vec) → at.parts.rest ≡ r → (k : ℕ) → k + 2 < n → get_or r k (no_vector d) ≡ S ((i + (k + 2)) % n)
+            side_is r e k inside =
+                let place : k + 2 ≡ suc (suc k) = omega arith in
+                sym (ap (λ xs. get_or xs k (no_vector d)) e)
+                ∙ ap (λ m. get_or (S i ∷ side_after d sides i ∷ at.parts.rest) m (no_vector d)) (sym place)
+                ∙ rotated_at sides _ at.parts.whole (k + 2) (no_vector d) inside
+                ∙ ap (λ m. S ((m + (k + 2)) % n)) at.place
+
+            go : (r : List Vec) → at.parts.rest ≡ r → AtCorner i
+            go [] e = absurd (omega (arith, long_rest, ap length e))
+            go (y ∷ []) e = absurd (omega (arith, long_rest, ap length e))
+            go (y ∷ z ∷ r) e =
+                let first : i + (0 + 2) ≡ i + 1 + 1 = omega arith in
+                let second : i + (1 + 2) ≡ i + 1 + 1 + 1 = omega arith in
+                let two : (i + (0 + 2)) % n ≡ ((i + 1) % n + 1) % n = ap (λ m. m % n) first ∙ sym (mod-add-mod (i + 1) n 1) in
+                let three : (i + (1 + 2)) % n ≡ (((i + 1) % n + 1) % n + 1) % n =
+                ap (λ m. m % n) second ∙ sym (mod-add-mod (i + 1 + 1) n 1) ∙ ap (λ m. (m + 1) % n) (sym (mod-add-mod (i + 1) n 1)) in
+                record {
+                  third = y;
+                  fourth = z;
+                  rest = r;
+                  whole = subst (λ xs. IsRotated sides (S i ∷ side_after d sides i ∷ xs)) e at.parts.whole;
+                  left = subst (λ xs. IsRotated (replaced sides i (chord_at d sides i)) (chord_at d sides i ∷ xs)) e at.parts.left;
+                  third_is = side_is (y ∷ z ∷ r) e 0 (omega arith) ∙ ap S two;
+                  fourth_is = side_is (y ∷ z ∷ r) e 1 (omega arith) ∙ ap S three;
+                }
+
+    at_cuttable : (i : ℕ) (below : i < n) → (c : AtCorner i) → IsCuttable d (S i ∷ side_after d sides i ∷ c.third ∷ c.fourth ∷ c.rest)
+    at_cuttable i below c = cuttable_rotated d field sides _ c.whole cuttable
+
+    -- a corner that turns to the left is an ear exactly where its chord turns to the left into the side behind it
+    pub ear_exactly : (i : ℕ) → i < n → IsPositive d (corner d sides i) → HasPositiveCorner d (replaced sides i (chord_at d sides i)) ↔ IsPositive d (chord_corner d sides i)
+    ear_exactly i below turns =
+        let c = at_corner i below in
+        let here = at_cuttable i below c in
+        let m = chord_at d sides i ∷ c.third ∷ c.fourth ∷ c.rest in
+        let left = replaced sides i (chord_at d sides i) in (
+          λ some. subst (λ x. IsPositive d (det O (chord_at d sides i) x)) c.third_is
+              (chord_turns (S i) (side_after d sides i) c.third (c.fourth ∷ c.rest) here turns (positive_rotated d left m c.left some)),
+          λ positive. positive_rotated d m left (rotated_back left m c.left)
+              (positive_first d (chord_at d sides i) c.third (c.fourth ∷ c.rest) (subst (λ x. IsPositive d (det O (chord_at d sides i) x)) (sym c.third_is) positive)),
+        )
+
+    -- some corner is an ear
+    pub some_ear : (i : ℕ) × IsEar d sides i
+    some_ear = go cuttable.some.0 cuttable.some.1 cuttable.some.2
+      where
+        go : (i : ℕ) → i < n → IsPositive d (corner d sides i) → (i : ℕ) × IsEar d sides i
+        go i below turns =
+            let c = at_corner i below in
+            let here = at_cuttable i below c in
+            elim (positive_or_not d field (chord_corner d sides i)) [
+              | inl positive ↦ (i, (below, turns, (ear_exactly i below turns).1 positive))
+              | inr not ↦
+                  let j = (i + 1) % n in
+                  let under : j < n = mod-lt (i + 1) (omega arith) in
+                  let not_third : ¬ (IsPositive d (det O (chord_at d sides i) c.third)) = λ p. not (subst (λ x. IsPositive d (det O (chord_at d sides i) x)) c.third_is p) in
+                  let next : IsPositive d (corner d sides j) =
+                  subst (λ x. IsPositive d (det O (S j) x)) c.third_is (next_turns (S i) (side_after d sides i) c.third c.fourth c.rest here turns not_third) in
+                  let behind : IsPositive d (chord_corner d sides j) =
+                  subst (λ x. IsPositive d (det O (vector_sum O (S j) x) (side_after d sides ((j + 1) % n)))) c.third_is
+                  (subst (λ x. IsPositive d (det O (vector_sum O (S j) c.third) x)) c.fourth_is (next_chord_turns (S i) (side_after d sides i) c.third c.fourth c.rest here turns not_third)) in
+                  (j, (under, next, (ear_exactly j under next).1 behind))
+            ]
+
+    -- what is left after an ear is cut off can be cut
+    pub cuttable_left : (i : ℕ) → IsEar d sides i → IsCuttable d (replaced sides i (chord_at d sides i))
+    cuttable_left i ear =
+        let c = at_corner i ear.0 in
+        let m = chord_at d sides i ∷ c.third ∷ c.fourth ∷ c.rest in
+        let left = replaced sides i (chord_at d sides i) in
+        cuttable_rotated d field m left (rotated_back left m c.left)
+        (left_cuttable (S i) (side_after d sides i) (c.third ∷ c.fourth ∷ c.rest) (at_cuttable i ear.0 c) ear.1 (positive_rotated d left m c.left ear.2))
+
+  -- a corner is an ear or not
+  ear_decided : (sides : List Vec) (i : ℕ) → IsEar d sides i ⊎ ¬ (IsEar d sides i)
+  ear_decided sides i =
+      elim (cases_lt i (length sides)) [
+        | inr outside ↦ inr (λ ear. omega (arith, ear.0))
+        | inl below ↦ elim (positive_or_not d field (corner d sides i)) [
+          | inr not ↦ inr (λ ear. not ear.1)
+          | inl turns ↦ elim (some_or_none d field (replaced sides i (chord_at d sides i))) [
+            | inl some ↦ inl (below, turns, some)
+            | inr none ↦ inr (λ ear. none ear.2.0 ear.2.1 ear.2.2)
+          ]
+        ]
       ]
 
-      seam : (v : Vec) (m : List Vec) (u : Vec) → sides ≡ v ∷ (m ++ (u ∷ [])) → IsPositive d (det O u v) → HasEar sides
-      seam v m u e h = elim (some_or_none (m ++ (vector_sum O u v ∷ []))) [
-        | inl some ↦ subst HasEar (sym e) (ear_seam m u v h some)
-        | inr none ↦ subst HasEar (sym e)
-            (next_ear_seam v m u (subst (λ s. 4 ≤ length s) e long) (subst Convex e convex) (subst AllNonzero e cuttable.nonzero) (ap (total O ring order) (sym e) ∙ closed) h none)
+  -- there is a least ear
+  pub some_least_ear : (sides : List Vec) → 4 ≤ length sides → IsCuttable d sides → (i : ℕ) × IsLeastEar d sides i
+  some_least_ear sides long cuttable =
+      let ear = some_ear sides long cuttable in
+      elim (first_below (IsEar d sides) (ear_decided sides) (length sides)) [
+        | inl first ↦ (first.place, (first.holds, first.before))
+        | inr none ↦ absurd (none ear.0 ear.1.0 ear.1)
       ]
 
-      go : Inner sides cuttable.some.0 ⊎ Seam sides cuttable.some.0 → HasEar sides
-      go (inl w) =
-          inner w.p w.q w.u w.v w.parts (subst (IsPositive d) (ap (λ s. corner d s cuttable.some.0) w.parts ∙ ap (corner d (w.p ++ (w.u ∷ w.v ∷ w.q))) w.place ∙ corner_inner d w.p w.q w.u w.v) cuttable.some.2)
-      go (inr w) =
-          seam w.v w.m w.u w.parts (subst (IsPositive d) (ap (λ s. corner d s cuttable.some.0) w.parts ∙ ap (corner d (w.v ∷ (w.m ++ (w.u ∷ [])))) w.place ∙ corner_seam d w.m w.u w.v) cuttable.some.2)
-
-  -- what is left after an ear is cut off can be cut
-  pub cuttable_left : (sides : List Vec) → 4 ≤ length sides → IsCuttable d sides → (i : ℕ) → IsEar d sides i → IsCuttable d (replaced sides i (chord_at d sides i))
-  cuttable_left sides long cuttable i ear = go (inner_or_seam sides i (omega (arith, long)) ear.0)
-    where
-      convex : Convex sides
-      convex = convex_of sides cuttable.left
-
-      closed : total O ring order sides ≡ no_vector d
-      closed = total_is sides ∙ cuttable.closed
-
-      make : (l : List Vec) → replaced sides i (chord_at d sides i) ≡ l → Convex l → AllNonzero l → total O ring order l ≡ no_vector d → IsCuttable d (replaced sides i (chord_at d sides i))
-      make l e c n t = subst (λ s. HasPositiveCorner d s → IsCuttable d s) (sym e)
-          (λ some. record { closed = sym (total_is l) ∙ t; nonzero = n; left = never_right l c; some = some }) ear.2
-
-      go : Inner sides i ⊎ Seam sides i → IsCuttable d (replaced sides i (chord_at d sides i))
-      go (inl w) =
-          let e : replaced sides i (chord_at d sides i) ≡ w.p ++ (vector_sum O w.u w.v ∷ w.q) =
-          ap (λ s. replaced s i (chord_at d s i)) w.parts ∙ ap (λ k. replaced (w.p ++ (w.u ∷ w.v ∷ w.q)) k (chord_at d (w.p ++ (w.u ∷ w.v ∷ w.q)) k)) w.place ∙ left_inner w.p w.q w.u w.v in
-          let h : IsPositive d (det O w.u w.v) =
-          subst (IsPositive d) (ap (λ s. corner d s i) w.parts ∙ ap (corner d (w.p ++ (w.u ∷ w.v ∷ w.q))) w.place ∙ corner_inner d w.p w.q w.u w.v) ear.1 in
-          make (w.p ++ (vector_sum O w.u w.v ∷ w.q)) e (left_convex w.p w.q w.u w.v (subst Convex w.parts convex))
-          (left_nonzero w.p w.q w.u w.v h (subst AllNonzero w.parts cuttable.nonzero))
-          (sym (total_merged O ring order w.p w.q w.u w.v) ∙ ap (total O ring order) (sym w.parts) ∙ closed)
-      go (inr w) =
-          let e : replaced sides i (chord_at d sides i) ≡ w.m ++ (vector_sum O w.u w.v ∷ []) =
-          ap (λ s. replaced s i (chord_at d s i)) w.parts ∙ ap (λ k. replaced (w.v ∷ (w.m ++ (w.u ∷ []))) k (chord_at d (w.v ∷ (w.m ++ (w.u ∷ []))) k)) w.place ∙ left_seam w.m w.u w.v in
-          let h : IsPositive d (det O w.u w.v) =
-          subst (IsPositive d) (ap (λ s. corner d s i) w.parts ∙ ap (corner d (w.v ∷ (w.m ++ (w.u ∷ [])))) w.place ∙ corner_seam d w.m w.u w.v) ear.1 in
-          let whole : total O ring order (w.v ∷ (w.m ++ (w.u ∷ []))) ≡ no_vector d = ap (total O ring order) (sym w.parts) ∙ closed in
-          make (w.m ++ (vector_sum O w.u w.v ∷ [])) e (left_convex w.m [] w.u w.v (convex_seam w.v w.m w.u (subst Convex w.parts convex) whole))
-          (left_nonzero w.m [] w.u w.v h (nonzero_seam w.v w.m w.u (subst AllNonzero w.parts cuttable.nonzero)))
-          (sym (total_merged O ring order w.m [] w.u w.v) ∙ ap (total O ring order) (sym (append_assoc w.m (w.u ∷ []) (w.v ∷ [])))
-          ∙ total_turned O ring order (w.v ∷ []) (w.m ++ (w.u ∷ [])) ∙ whole)
-
-  -- the last three sides sum to zero
+  -- ---- the last three sides
+  -- they sum to zero
   pub last_closed : (u v w : Vec) → IsCuttable d (u ∷ v ∷ w ∷ []) → vector_sum O (vector_sum O u v) w ≡ no_vector d
   last_closed u v w cuttable =
       (λ i. (
-        identity O ring (u.0 ∷ v.0 ∷ w.0 ∷ []) (expr.add (expr.add (var 0) (var 1)) (var 2)) (expr.add (var 0) (expr.add (var 1) (expr.add (var 2) (expr.int (pos 0))))) tt i,
-        identity O ring (u.1 ∷ v.1 ∷ w.1 ∷ []) (expr.add (expr.add (var 0) (var 1)) (var 2)) (expr.add (var 0) (expr.add (var 1) (expr.add (var 2) (expr.int (pos 0))))) tt i,
+        identity O L (u.0 ∷ v.0 ∷ w.0 ∷ []) (expr.add (expr.add (var 0) (var 1)) (var 2)) (expr.add (var 0) (expr.add (var 1) (expr.add (var 2) (expr.int (pos 0))))) tt i,
+        identity O L (u.1 ∷ v.1 ∷ w.1 ∷ []) (expr.add (expr.add (var 0) (var 1)) (var 2)) (expr.add (var 0) (expr.add (var 1) (expr.add (var 2) (expr.int (pos 0))))) tt i,
       )) ∙ cuttable.closed
 
   -- and turn to the left
@@ -398,134 +301,11 @@ module _ (d : ℕ) (field : IsFieldNumber d) where
       at_place : (i : ℕ) → cuttable.some.0 ≡ i → IsPositive d (corner d (u ∷ v ∷ w ∷ []) i)
       at_place i e = subst (λ k. IsPositive d (corner d (u ∷ v ∷ w ∷ []) k)) e cuttable.some.2
 
-      e : both O ring order (both O ring order u v) w ≡ no_vector d
+      e : vector_sum O (vector_sum O u v) w ≡ no_vector d
       e = last_closed u v w cuttable
 
       by_place : (i : ℕ) → cuttable.some.0 ≡ i → cuttable.some.0 < 3 → IsPositive d (det O u v)
-      by_place zero k _ = subst (IsPositive d) (corner_inner d [] (w ∷ []) u v) (at_place 0 k)
-      by_place (suc zero) k _ = subst (IsPositive d) (corner_inner d (u ∷ []) [] v w ∙ det_closed_second O ring order u v w e) (at_place 1 k)
-      by_place (suc (suc zero)) k _ = subst (IsPositive d) (corner_seam d (v ∷ []) w u ∙ det_closed_third O ring order u v w e) (at_place 2 k)
+      by_place zero k _ = at_place 0 k
+      by_place (suc zero) k _ = subst (IsPositive d) (det_closed_second O L Q u v w e) (at_place 1 k)
+      by_place (suc (suc zero)) k _ = subst (IsPositive d) (det_closed_third O L Q u v w e) (at_place 2 k)
       by_place (suc (suc (suc i))) k inside = absurd (omega (arith, k, inside))
-
-  -- ---- a proper polygon
-  -- a list of one vector or none is flat
-  short_flat : (sides : List Vec) → length sides < 2 → IsFlat d sides
-  short_flat [] short i inside = absurd (omega (arith, inside))
-  short_flat (u ∷ []) short zero inside = parallel_self O ring order u
-  short_flat (u ∷ []) short (suc i) inside = absurd (omega (arith, inside))
-  short_flat (u ∷ v ∷ l) short i inside = absurd (omega (arith, short))
-
-  -- a proper polygon has more than one side
-  proper_long : (sides : List Vec) → IsProper d sides → 2 ≤ length sides
-  proper_long sides proper = elim (cases_lt (length sides) 2) [ inl short ↦ absurd (proper.not_flat (short_flat sides short)) | inr long ↦ long ]
-
-  all_nonzero : (sides : List Vec) → ((i : ℕ) → i < length sides → ¬ (side_at d sides i ≡ no_vector d)) → AllNonzero sides
-  all_nonzero [] h = tt
-  all_nonzero (v ∷ sides) h = (h 0 (omega arith), all_nonzero sides (λ i inside. h (suc i) (omega (arith, inside))))
-
-  -- at every corner but the one where the half rises, a proper polygon goes on
-  goes_at : (sides : List Vec) (proper : IsProper d sides) (i : ℕ) → i < length sides → ¬ (i ≡ proper.convex.once.0) → (u v : Vec) → side_at d sides i ≡ u → side_after d sides i ≡ v → Goes O ring order u v
-  goes_at sides proper i inside other u v e k = (
-    subst (NN O ring order) (ap (λ w. det O w (side_after d sides i)) e ∙ ap (det O u) k) (nn_of O ring order _ (proper.convex.never_right i inside)),
-    λ rise. other (proper.convex.once.3 i inside (subst (λ w. ¬ (Upper O ring order w)) (sym e) rise.0, subst (Upper O ring order) (sym k) rise.1)),
-  )
-
-  goes_inner : (sides : List Vec) (proper : IsProper d sides) (p q : List Vec) (u v : Vec) → sides ≡ p ++ (u ∷ v ∷ q) → ¬ (length p ≡ proper.convex.once.0) → Goes O ring order u v
-  goes_inner sides proper p q u v e other =
-      goes_at sides proper (length p) (omega (arith, ap length e, length-append p (u ∷ v ∷ q))) other u v
-      (ap (λ s. side_at d s (length p)) e ∙ at_inner d p q u v) (ap (λ s. side_after d s (length p)) e ∙ after_inner d p q u v)
-
-  goes_seam : (sides : List Vec) (proper : IsProper d sides) (m : List Vec) (u v : Vec) → sides ≡ v ∷ (m ++ (u ∷ [])) → ¬ (suc (length m) ≡ proper.convex.once.0) → Goes O ring order u v
-  goes_seam sides proper m u v e other =
-      goes_at sides proper (suc (length m)) (omega (arith, ap length e, length_push m u)) other u v
-      (ap (λ s. side_at d s (suc (length m))) e ∙ at_seam d m u v) (ap (λ s. side_after d s (suc (length m))) e ∙ after_seam d m u v)
-
-  -- the vector behind the rise is upper
-  upper_inner : (sides : List Vec) (proper : IsProper d sides) (p q : List Vec) (u v : Vec) → sides ≡ p ++ (u ∷ v ∷ q) → proper.convex.once.0 ≡ length p → Upper O ring order v
-  upper_inner sides proper p q u v e k =
-      subst (Upper O ring order) (ap (λ s. side_after d s proper.convex.once.0) e ∙ ap (side_after d (p ++ (u ∷ v ∷ q))) k ∙ after_inner d p q u v) proper.convex.once.2.1
-
-  upper_seam : (sides : List Vec) (proper : IsProper d sides) (m : List Vec) (u v : Vec) → sides ≡ v ∷ (m ++ (u ∷ [])) → proper.convex.once.0 ≡ suc (length m) → Upper O ring order v
-  upper_seam sides proper m u v e k =
-      subst (Upper O ring order) (ap (λ s. side_after d s proper.convex.once.0) e ∙ ap (side_after d (v ∷ (m ++ (u ∷ [])))) k ∙ after_seam d m u v) proper.convex.once.2.1
-
-  proper_nonzero : (sides : List Vec) → IsProper d sides → AllNonzero sides
-  proper_nonzero sides proper = all_nonzero sides proper.convex.sides_nonzero
-
-  proper_total : (sides : List Vec) → IsProper d sides → total O ring order sides ≡ no_vector d
-  proper_total sides proper = total_is sides ∙ proper.closed
-
-  -- the rise is at the seam: the list itself begins in the upper half
-  convex_from_seam : (sides : List Vec) (proper : IsProper d sides) → Seam sides proper.convex.once.0 → Convex sides
-  convex_from_seam sides proper w =
-      subst Convex (sym w.parts)
-      (rising_convex O ring order w.v (w.m ++ (w.u ∷ [])) (upper_seam sides proper w.m w.u w.v w.parts w.place)
-      (subst AllNonzero w.parts (proper_nonzero sides proper)).1
-      (chain_of O ring order (Goes O ring order) (w.v ∷ (w.m ++ (w.u ∷ []))) (λ a x y b e.
-      goes_inner sides proper a b x y (w.parts ∙ e)
-      (λ k. omega (arith, k, w.place, ap length e, length_push w.m w.u, length-append a (x ∷ y ∷ b)))))
-      (ap (total O ring order) (sym w.parts) ∙ proper_total sides proper))
-
-  -- the rise is inside: the list is begun behind it
-  convex_from_inner : (sides : List Vec) (proper : IsProper d sides) → Inner sides proper.convex.once.0 → Convex sides
-  convex_from_inner sides proper w =
-      subst Convex (append_assoc w.p (w.u ∷ []) (w.v ∷ w.q) ∙ sym w.parts)
-      (convex_turned O ring order (w.v ∷ w.q) (w.p ++ (w.u ∷ [])) closed
-      (rising_convex O ring order w.v (w.q ++ (w.p ++ (w.u ∷ []))) (upper_inner sides proper w.p w.q w.u w.v w.parts w.place)
-      turned_nonzero.1 turned_chain closed))
-    where
-      parts : sides ≡ (w.p ++ (w.u ∷ [])) ++ (w.v ∷ w.q)
-      parts = w.parts ∙ sym (append_assoc w.p (w.u ∷ []) (w.v ∷ w.q))
-
-      closed : total O ring order ((w.v ∷ w.q) ++ (w.p ++ (w.u ∷ []))) ≡ no_vector d
-      closed = total_turned O ring order (w.p ++ (w.u ∷ [])) (w.v ∷ w.q) ∙ ap (total O ring order) (sym parts) ∙ proper_total sides proper
-
-      turned_nonzero : AllNonzero ((w.v ∷ w.q) ++ (w.p ++ (w.u ∷ [])))
-      turned_nonzero =
-          let N : Vec → Type 0 = λ v. ¬ (v ≡ no_vector d) in
-          let all : AllNonzero ((w.p ++ (w.u ∷ [])) ++ (w.v ∷ w.q)) = subst AllNonzero parts (proper_nonzero sides proper) in
-          all_both N (w.v ∷ w.q) (w.p ++ (w.u ∷ [])) (all_second N (w.p ++ (w.u ∷ [])) (w.v ∷ w.q) all) (all_first N (w.p ++ (w.u ∷ [])) (w.v ∷ w.q) all)
-
-      front : Chain O ring order (Goes O ring order) (w.v ∷ w.q)
-      front = chain_of O ring order (Goes O ring order) (w.v ∷ w.q) (λ a x y b e.
-          goes_inner sides proper (w.p ++ (w.u ∷ a)) b x y (w.parts ∙ ap (λ s. w.p ++ (w.u ∷ s)) e ∙ sym (append_assoc w.p (w.u ∷ a) (x ∷ y ∷ b)))
-          (λ k. omega (arith, k, w.place, length-append w.p (w.u ∷ a))))
-
-      back : Chain O ring order (Goes O ring order) (w.p ++ (w.u ∷ []))
-      back = chain_of O ring order (Goes O ring order) (w.p ++ (w.u ∷ [])) (λ a x y b e.
-          goes_inner sides proper a (b ++ (w.v ∷ w.q)) x y (parts ∙ ap (λ s. s ++ (w.v ∷ w.q)) e ∙ append_assoc a (x ∷ y ∷ b) (w.v ∷ w.q))
-          (λ k. omega (arith, k, w.place, ap length e, length_push w.p w.u, length-append a (x ∷ y ∷ b))))
-
-      turned_chain : Chain O ring order (Goes O ring order) ((w.v ∷ w.q) ++ (w.p ++ (w.u ∷ [])))
-      turned_chain = joined (w.p ++ (w.u ∷ [])) refl
-        where
-          joined : (l : List Vec) → w.p ++ (w.u ∷ []) ≡ l → Chain O ring order (Goes O ring order) ((w.v ∷ w.q) ++ (w.p ++ (w.u ∷ [])))
-          joined [] e = absurd (omega (arith, ap length e, length_push w.p w.u))
-          joined (f ∷ g) e =
-              let last = last_of w.v w.q in
-              subst (Chain O ring order (Goes O ring order)) (ap (λ s. s ++ (f ∷ g)) (sym last.2) ∙ ap (λ s. (w.v ∷ w.q) ++ s) (sym e))
-              (chain_joined O ring order (Goes O ring order) last.0 last.1 f g
-              (subst (Chain O ring order (Goes O ring order)) last.2 front)
-              (goes_seam sides proper (g ++ last.0) last.1 f
-              (parts ∙ ap (λ s. s ++ (w.v ∷ w.q)) e ∙ ap (λ s. f ∷ (g ++ s)) last.2 ∙ ap (λ s. f ∷ s) (sym (append_assoc g last.0 (last.1 ∷ []))))
-              (λ k. omega (arith, k, w.place, ap length e, length_push w.p w.u, length-append g last.0)))
-              (subst (Chain O ring order (Goes O ring order)) e back))
-
-  -- a proper polygon is in convex position
-  proper_convex : (sides : List Vec) → IsProper d sides → Convex sides
-  proper_convex sides proper = elim (inner_or_seam sides proper.convex.once.0 (proper_long sides proper) proper.convex.once.1) [
-    | inl w ↦ convex_from_inner sides proper w
-    | inr w ↦ convex_from_seam sides proper w
-  ]
-
-  -- a proper polygon can be cut
-  pub proper_cuttable : (sides : List Vec) → IsProper d sides → IsCuttable d sides
-  proper_cuttable sides proper = record {
-    closed = proper.closed;
-    nonzero = proper_nonzero sides proper;
-    left = never_right sides (proper_convex sides proper);
-    some = elim (some_or_none sides) [
-      | inl some ↦ some
-      | inr none ↦ absurd (proper.not_flat (λ i inside. zero_from (corner d sides i) (nn_of O ring order _ (proper.convex.never_right i inside)) (none i inside)))
-    ];
-  }

@@ -1,10 +1,13 @@
 pub mod Splits
 pub mod Turning
+pub mod Rotations
+pub mod Replaced
 pub mod Corners
 pub mod Parallel
+pub mod Convex
 pub mod Ears
+pub mod Passed
 pub mod Widths
-pub mod Replaced
 pub mod Unique
 pub mod Sided
 pub mod Origins
@@ -18,4 +21,6 @@ pub mod Only
 pub mod Seen
 pub mod Steps
 pub mod Courses
-pub mod Outcomes
+pub mod Slots
+pub mod Existence
+pub mod CallerLemmas

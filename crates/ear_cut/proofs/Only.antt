@@ -9,7 +9,7 @@ use Rattle.tri_core.specs.HalfEdges.{no_half, half_at, twin_at}
 use Rattle.gluing.specs.Gluings.{Gluing, IsGluing}
 use Rattle.ear_cut.specs.Cuttings.{at, sides_of, vectors_of, ArePartners, IsEarCutting}
 use Rattle.ear_cut.specs.Steps.{source_at}
-use Rattle.ear_cut.proofs.Unique.{one_cutting}
+use Rattle.ear_cut.proofs.Unique.{same_pieces}
 use Rattle.ear_cut.proofs.Partners.{one_partner}
 use Rattle.ear_cut.proofs.Triangulated.{long, vector_is, once, twin_below, twin_partner}
 
@@ -38,5 +38,5 @@ same_halves g valid a b p q same =
     let twins = once g valid a p (source_at sides (twin_at a h)) (twin_at a h) (twin_at b h) (twin_below g valid a p h here) (twin_below g valid b r h here) refl (sym partner) in
     same_half (half_at a h) (half_at b h) vecs twins)
 
-pub only_halves : (g : Gluing) → IsGluing g → (a b : List Half) → IsEarCutting g a → IsEarCutting g b → a ≡ b
-only_halves g valid a b p q = same_halves g valid a b p q (one_cutting g.field 0 0 g.polygons p.pieces q.pieces p.cut q.cut)
+pub one_cutting : (g : Gluing) → IsGluing g → (a b : List Half) → IsEarCutting g a → IsEarCutting g b → a ≡ b
+one_cutting g valid a b p q = same_halves g valid a b p q (same_pieces g.field 0 0 g.polygons p.pieces q.pieces p.cut q.cut)

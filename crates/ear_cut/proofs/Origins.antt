@@ -1,7 +1,7 @@
 -- Each side of a polygon, each chord and each back of a chord is the origin of one side of the triangles.
 use Rattle.std.proofs.Common.{◌≡◌, ℕ, zero, suc, ◌+◌, ◌<◌, ◌≤◌, List, [], ◌∷◌, ◌++◌, length, nat_eq, Bool, cond, true, false, refl, ap, ap₂, sym, ◌∙◌, subst, arith, inl, inr, eq-eqb, eqb-true}
 use Rattle.std.proofs.lemmas.Bool.{cases_Bool, cases_eq, cases_lt, cond-true, cond-false}
-use Rattle.std.proofs.lemmas.List.{length-map}
+use Rattle.std.proofs.lemmas.List.{length-map, length-append}
 use Rattle.plane.specs.declared.vec2.Vec2.{Vec2}
 use Rattle.surface_text.specs.Limits.{IsThere}
 use Rattle.ear_cut.specs.Cuttings.{Side, Piece, Origin, left_over, outer_sides, sides_of, IsCut, AreCut}
@@ -222,6 +222,17 @@ below_chord : (u d p t : ℕ) (polygons : List (List Vec2)) (pieces : List Piece
 below_chord u d p t [] pieces below cut = ap (λ ps. count (Origin.chord u) (sides_of ps)) cut
 below_chord u d p t (sides ∷ polygons) pieces below (own, more, e, here, rest) =
     omega (arith, count-parts (Origin.chord u) pieces own more e, count_cut (Origin.chord u) d t (outer_sides p 0 sides) own here, chords_below u t own below, outer_chord u p 0 sides, below_chord u d (p + 1) (t + length own) polygons more (omega arith) rest)
+
+-- there is a chord of no triangle that isn't cut off
+above_chord : (u d p t : ℕ) (polygons : List (List Vec2)) (pieces : List Piece) → t + length pieces ≤ u → AreCut d p t polygons pieces → count (Origin.chord u) (sides_of pieces) ≡ 0
+above_chord u d p t [] pieces above cut = ap (λ ps. count (Origin.chord u) (sides_of ps)) cut
+above_chord u d p t (sides ∷ polygons) pieces above (own, more, e, here, rest) =
+    let long = ap length e ∙ length-append own more in
+    omega (arith, count-parts (Origin.chord u) pieces own more e, count_cut (Origin.chord u) d t (outer_sides p 0 sides) own here, chords_above u t own (omega arith), outer_chord u p 0 sides, above_chord u d (p + 1) (t + length own) polygons more (omega arith) rest)
+
+pub chord_below : (u d : ℕ) (polygons : List (List Vec2)) (pieces : List Piece) → AreCut d 0 0 polygons pieces → 1 ≤ count (Origin.chord u) (sides_of pieces) → u < length pieces
+chord_below u d polygons pieces cut some =
+    elim (cases_lt u (length pieces)) [ inl below ↦ below | inr above ↦ absurd (omega (arith, above_chord u d 0 0 polygons pieces (omega arith) cut)) ]
 
 -- as many chords as backs
 pub as_many : (u d p t : ℕ) (polygons : List (List Vec2)) (pieces : List Piece) → AreCut d p t polygons pieces → count (Origin.chord u) (sides_of pieces) ≡ count (Origin.back u) (sides_of pieces)

@@ -1,5 +1,5 @@
--- Vectors that are parallel, one after another.
-use Rattle.std.proofs.Common.{◌≡◌, List, [], ◌∷◌, ◌++◌, ap, ◌∙◌, refl}
+-- Vectors that are parallel, and lists of them.
+use Rattle.std.proofs.Common.{◌≡◌, List, [], ◌∷◌, ◌++◌, ap, sym, subst, ◌∙◌, refl}
 use Rattle.std.specs.Prelude.{pos, ◌⊎◌}
 use Rattle.std.specs.List.{AllByRecursion}
 use mathlib.Core.Logic.{inl, inr}
@@ -7,7 +7,9 @@ use Rattle.rings.specs.Ring.{Ops, IsRing, var, expr}
 use Rattle.rings.specs.Order.{IsOrdered}
 use Rattle.rings.specs.Forms.{det}
 use Rattle.rings.proofs.Solver.{identity}
-use Rattle.rings.proofs.Ordered.{no_divisors}
+use Rattle.std.proofs.lemmas.List.{append_assoc}
+use Rattle.rings.proofs.Ordered.{no_divisors, product_negative, product_not_negative}
+use Rattle.ear_cut.proofs.Turning.{NN, not_negative, both, none, total, total_both, InConvexPosition}
 open expr use {add as ◌+'◌, sub as ◌-'◌, mul as ◌*'◌, neg as neg', int as int'}
 
 infixl 60 ◌+'◌
@@ -74,11 +76,57 @@ module _ {R : Type 0} (O : Ops R) (L : IsRing O) {P : R → Type 0} (Q : IsOrder
       identity O L (u.0 ∷ u.1 ∷ v.0 ∷ v.1 ∷ []) (det expr (var 0, var 1) (var 2, var 3)) (det expr (var 0, var 1) (var 0 +' var 2, var 1 +' var 3)) tt
       ∙ both
 
-  -- where each vector of a list is parallel to the next, and none is zero, all are parallel to the first
-  pub all_parallel : (f u : R × R) (l : List (R × R)) → ¬ (u ≡ Nothing) → AllByRecursion (λ v. ¬ (v ≡ Nothing)) l → Parallel f u
-      → ((a : List (R × R)) (x y : R × R) (b : List (R × R)) → u ∷ l ≡ a ++ (x ∷ y ∷ b) → Parallel x y)
-      → AllByRecursion (Parallel f) l
-  all_parallel f u [] nonzero all h next = tt
-  all_parallel f u (v ∷ l) nonzero all h next =
-      let k : Parallel f v = parallel_trans f u v nonzero h (next [] u v l refl) in
-      (k, all_parallel f v l all.0 all.1 k (λ a x y b e. next (u ∷ a) x y b (ap (λ z. u ∷ z) e)))
+  -- ---- a list in convex position that begins with two parallel vectors
+  -- z is parallel to y where the sums of what stands before z, with z and without it, are
+  parallel_next : (y z : R × R) (p : List (R × R)) → Parallel y (total O L Q p) → Parallel y (total O L Q (p ++ (z ∷ []))) → Parallel y z
+  parallel_next y z p h k =
+      let s = total O L Q p in
+      identity O L (y.0 ∷ y.1 ∷ z.0 ∷ z.1 ∷ s.0 ∷ s.1 ∷ [])
+      (det expr (var 0, var 1) (var 2, var 3))
+      (det expr (var 0, var 1) (var 4 +' (var 2 +' int' (pos 0)), var 5 +' (var 3 +' int' (pos 0))) -' det expr (var 0, var 1) (var 4, var 5)) tt
+      ∙ ap (λ t. det O y t ⊖ det O y s) (sym (total_both O L Q p (z ∷ [])))
+      ∙ ap (λ t. t ⊖ det O y s) k ∙ ap (λ t. num_of (pos 0) ⊖ t) h
+      ∙ identity O L [] (int' (pos 0) -' int' (pos 0)) (int' (pos 0)) tt
+
+  -- w and y are parallel, v turns to the right into w and not into y: then y and z are parallel where none of w and y turns to the right into z
+  parallel_third : (v w y z : R × R) → NN O L Q (det O v y) → P (minus (det O v w)) → Parallel w y → NN O L Q (det O w z) → NN O L Q (det O y z) → Parallel y z
+  parallel_third v w y z h n flat k (inl e) = e
+  parallel_third v w y z h n flat k (inr p) =
+      not_negative O L Q (det O v y ⊗ det O w z) (product_not_negative O L Q (det O v y) (det O w z) h k)
+      (subst (λ t. P (minus t)) same (product_negative O L Q (det O v w) (det O y z) n p))
+    where
+      same : det O v w ⊗ det O y z ≡ det O v y ⊗ det O w z
+      same =
+          identity O L (v.0 ∷ v.1 ∷ w.0 ∷ w.1 ∷ y.0 ∷ y.1 ∷ z.0 ∷ z.1 ∷ [])
+          (det expr (var 0, var 1) (var 2, var 3) *' det expr (var 4, var 5) (var 6, var 7))
+          (det expr (var 0, var 1) (var 4, var 5) *' det expr (var 2, var 3) (var 6, var 7) -' det expr (var 2, var 3) (var 4, var 5) *' det expr (var 0, var 1) (var 6, var 7)) tt
+          ∙ ap (λ t. det O v y ⊗ det O w z ⊖ t ⊗ det O v z) flat
+          ∙ (let a = det O v y ⊗ det O w z in identity O L (a ∷ det O v z ∷ []) (var 0 -' int' (pos 0) *' var 1) (var 0) tt)
+
+  -- a fact of each element of a list, wherever it is split
+  each_split : {X : Type 0} (F : X → Type 0) (l : List X) → ((p : List X) (z : X) (q : List X) → l ≡ p ++ (z ∷ q) → F z) → AllByRecursion F l
+  each_split F [] f = tt
+  each_split F (z ∷ l) f = (f [] z l refl, each_split F l (λ p x q e. f (z ∷ p) x q (ap (λ s. z ∷ s) e)))
+
+  -- so all that follows is parallel to y
+  pub all_parallel : (v w y : R × R) (rest : List (R × R)) → NN O L Q (det O v y) → P (minus (det O v w)) → Parallel w y → InConvexPosition O L Q (w ∷ y ∷ rest) → AllByRecursion (Parallel y) (w ∷ y ∷ rest)
+  all_parallel v w y rest h n flat convex = (parallel_turned w y flat, (parallel_self y, each_split (Parallel y) rest (λ p z q e.
+      parallel_next y z p (stretch p (z ∷ q) e) (stretch (p ++ (z ∷ [])) q (e ∙ sym (append_assoc p (z ∷ []) q))))))
+    where
+      from_first : (s : R × R) → det O (both O L Q w (none O L Q)) (both O L Q y s) ≡ det O w s
+      from_first s =
+          identity O L (w.0 ∷ w.1 ∷ y.0 ∷ y.1 ∷ s.0 ∷ s.1 ∷ [])
+          (det expr (var 0 +' int' (pos 0), var 1 +' int' (pos 0)) (var 2 +' var 4, var 3 +' var 5))
+          (det expr (var 0, var 1) (var 2, var 3) +' det expr (var 0, var 1) (var 4, var 5)) tt
+          ∙ ap (λ t. t ⊕ det O w s) flat ∙ identity O L (det O w s ∷ []) (int' (pos 0) +' var 0) (var 0) tt
+
+      from_second : (s : R × R) → det O (both O L Q y (none O L Q)) s ≡ det O y s
+      from_second s =
+          identity O L (y.0 ∷ y.1 ∷ s.0 ∷ s.1 ∷ []) (det expr (var 0 +' int' (pos 0), var 1 +' int' (pos 0)) (var 2, var 3)) (det expr (var 0, var 1) (var 2, var 3)) tt
+
+      -- the sum of what stands first behind y is parallel to y
+      stretch : (p q : List (R × R)) → rest ≡ p ++ q → Parallel y (total O L Q p)
+      stretch p q e =
+          parallel_third v w y (total O L Q p) h n flat
+          (subst (NN O L Q) (from_first (total O L Q p)) (convex [] (w ∷ []) (y ∷ p) q (ap (λ s. w ∷ y ∷ s) e)))
+          (subst (NN O L Q) (from_second (total O L Q p)) (convex (w ∷ []) (y ∷ []) p q (ap (λ s. w ∷ y ∷ s) e)))

@@ -12,7 +12,7 @@ use Rattle.ear_cut.specs.Steps.{total_size, IsReady, AreCuttable}
 use Rattle.ear_cut.proofs.Replaced.{each_at, each_from}
 use Rattle.ear_cut.proofs.Sided.{cut_length}
 use Rattle.ear_cut.proofs.Labels.{outer_length}
-use Rattle.ear_cut.proofs.Ears.{proper_cuttable}
+use Rattle.ear_cut.proofs.Convex.{proper_cuttable}
 
 bounded_size : (sides : List Vec2) → AllByRecursion IsBoundedVector sides → total_size (map vector sides) ≤ 4000000000 * length sides
 bounded_size [] all = omega arith

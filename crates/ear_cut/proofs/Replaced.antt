@@ -1,79 +1,59 @@
--- A list with one element put in place of two.
-use Rattle.std.proofs.Common.{◌≡◌, ℕ, zero, suc, ◌+◌, ◌<◌, ◌≤◌, List, [], ◌∷◌, ◌++◌, length, get_or, take, drop, map, nat_lt, cond, refl, ap, ap₂, sym, ◌∙◌, subst, subst₂, arith, inl, inr}
+-- What a list with one element in the place of two keeps: lengths, sums of weights, and what holds of each element.
+use Rattle.std.proofs.Common.{◌≡◌, ℕ, zero, suc, ◌+◌, ◌%◌, ◌<◌, ◌≤◌, List, [], ◌∷◌, ◌++◌, length, get_or, set, take, drop, map, ap, ap₂, sym, ◌∙◌, arith}
+use Rattle.std.specs.Prelude.{remove}
 use Rattle.std.specs.List.{AllByRecursion}
-use borrow.Author.Tests.{ltb-true, ltb-false}
-use Rattle.std.proofs.lemmas.Bool.{cases_Bool, cond-true, cond-false}
-use Rattle.std.proofs.lemmas.List.{map-append, length-map, length-append, take-append-drop, take-map, drop-map, drop_more, drop_all}
+use Rattle.std.proofs.lemmas.List.{map-append, map-set, length-map, length-set, take-map, drop-map, get_or-set_other}
+use Rattle.std.proofs.lemmas.List.Edits.{get_or-remove_below, get_or-remove_above}
+use Rattle.std.proofs.Math.Nat.{mod-eq_of_lt}
 use Rattle.ear_cut.specs.Cuttings.{replaced}
 use Rattle.ear_cut.specs.Steps.{total}
+use Rattle.ear_cut.proofs.Rotations.{IsRotated, rotated_back, rotated-length, rotated_all, IsReplaced, replaced_at}
 
--- the element after place i, round the end
-abbrev pub behind : {X : Type 0} → List X → ℕ → X → X
-behind xs i d = cond (nat_lt (i + 1) (length xs)) (get_or xs (i + 1) d) (get_or xs 0 d)
+pub replaced_cases : {X : Type 0} (xs : List X) (i : ℕ) (d x : X) → i < length xs → 2 ≤ length xs → IsReplaced xs (get_or xs i d) (get_or xs ((i + 1) % length xs) d) x (replaced xs i x)
+replaced_cases xs i d x below long = (replaced_at xs i d x below long).parts
 
--- x stands in ys in place of a, and of b after it, which is the first where a is the last
-pub data IsReplaced {X : Type 0} (xs : List X) (a b x : X) (ys : List X) : Type 0 where
-  inner : (front rest : List X) → xs ≡ front ++ a ∷ b ∷ rest → ys ≡ front ++ x ∷ rest → IsReplaced xs a b x ys
-  ends : (middle : List X) → xs ≡ b ∷ (middle ++ a ∷ []) → ys ≡ middle ++ x ∷ [] → IsReplaced xs a b x ys
-
-split_one : {X : Type 0} (xs : List X) (i : ℕ) (d : X) → i < length xs → xs ≡ take i xs ++ get_or xs i d ∷ drop (i + 1) xs
-split_one xs i d below = sym (take-append-drop i xs) ∙ ap (λ rest. take i xs ++ rest) (drop_more xs i d below)
-
-split_two : {X : Type 0} (xs : List X) (i : ℕ) (d : X) → i + 1 < length xs → xs ≡ take i xs ++ get_or xs i d ∷ get_or xs (i + 1) d ∷ drop (i + 2) xs
-split_two xs i d below =
-    let more : drop (i + 1) xs ≡ get_or xs (i + 1) d ∷ drop (i + 1 + 1) xs = drop_more xs (i + 1) d below in
-    let same : i + 1 + 1 ≡ i + 2 = omega arith in
-    split_one xs i d (omega arith) ∙ ap (λ rest. take i xs ++ get_or xs i d ∷ rest) (more ∙ ap (λ n. get_or xs (i + 1) d ∷ drop n xs) same)
-
-split_ends : {X : Type 0} (xs : List X) (i : ℕ) (d : X) → length xs ≡ suc i → 1 ≤ i → xs ≡ get_or xs 0 d ∷ (drop 1 (take i xs) ++ get_or xs i d ∷ [])
-split_ends [] i d long some = absurd (omega arith)
-split_ends (x ∷ xs) zero d long some = absurd (omega arith)
-split_ends (x ∷ xs) (suc j) d long some =
-    ap (λ rest. x ∷ rest) (split_one xs j d (omega arith) ∙ ap (λ rest. take j xs ++ get_or xs j d ∷ rest) (drop_all (j + 1) xs (omega arith)))
-
-pub replaced_cases : {X : Type 0} (xs : List X) (i : ℕ) (d x : X) → i < length xs → 2 ≤ length xs → IsReplaced xs (get_or xs i d) (behind xs i d) x (replaced xs i x)
-replaced_cases xs i d x below long =
-    elim (cases_Bool (nat_lt (i + 1) (length xs))) [
-      | inl is ↦
-          let less : i + 1 < length xs = ltb-true (i + 1) (length xs) is in
-          subst₂ (λ b ys. IsReplaced xs (get_or xs i d) b x ys) (sym (cond-true _ _ _ is)) (sym (cond-true _ _ _ is))
-          (inner (take i xs) (drop (i + 2) xs) (split_two xs i d less) refl)
-      | inr isnt ↦
-          let last : length xs ≤ i + 1 = ltb-false (i + 1) (length xs) isnt in
-          subst₂ (λ b ys. IsReplaced xs (get_or xs i d) b x ys) (sym (cond-false _ _ _ isnt)) (sym (cond-false _ _ _ isnt))
-          (ends (drop 1 (take i xs)) (split_ends xs i d (omega arith) (omega arith)) refl)
-    ]
+remove-map : {X Y : Type 0} (f : X → Y) (xs : List X) (i : ℕ) → map f (remove xs i) ≡ remove (map f xs) i
+remove-map f xs i = map-append f (take i xs) (drop (suc i) xs) ∙ ap₂ (λ front rest. front ++ rest) (sym (take-map f i xs)) (sym (drop-map f (suc i) xs))
 
 pub replaced-map : {X Y : Type 0} (f : X → Y) (xs : List X) (i : ℕ) (x : X) → map f (replaced xs i x) ≡ replaced (map f xs) i (f x)
 replaced-map f xs i x =
-    let long = length-map xs f in
-    elim (cases_Bool (nat_lt (i + 1) (length xs))) [
-      | inl is ↦
-          ap (map f) (cond-true _ _ _ is)
-          ∙ (map-append f (take i xs) (x ∷ drop (i + 2) xs) ∙ ap₂ (λ front rest. front ++ f x ∷ rest) (sym (take-map f i xs)) (sym (drop-map f (i + 2) xs)))
-          ∙ sym (cond-true _ _ _ (ap (nat_lt (i + 1)) long ∙ is))
-      | inr isnt ↦
-          ap (map f) (cond-false _ _ _ isnt)
-          ∙ (map-append f (drop 1 (take i xs)) (x ∷ []) ∙ ap (λ front. front ++ f x ∷ []) (sym (drop-map f 1 (take i xs)) ∙ ap (drop 1) (sym (take-map f i xs))))
-          ∙ sym (cond-false _ _ _ (ap (nat_lt (i + 1)) long ∙ isnt))
-    ]
+    remove-map f (set xs i x) ((i + 1) % length xs)
+    ∙ ap₂ (λ ys n. remove ys ((i + 1) % n)) (map-set f xs i x) (sym (length-map xs f))
+
+-- what stands before the new element, and behind the one that is gone, where both stand inside the list
+pub replaced_before : {X : Type 0} (xs : List X) (i : ℕ) (x : X) (k : ℕ) (d : X) → i + 1 < length xs → k < i → get_or (replaced xs i x) k d ≡ get_or xs k d
+replaced_before xs i x k d inside below =
+    let place : (i + 1) % length xs ≡ i + 1 = mod-eq_of_lt inside in
+    let other : ¬ (k ≡ i) = λ e. omega arith in
+    ap (λ n. get_or (remove (set xs i x) n) k d) place
+    ∙ get_or-remove_below (set xs i x) (i + 1) d k (omega arith) (omega (arith, length-set xs i x))
+    ∙ get_or-set_other xs i k x d other
+
+pub replaced_behind : {X : Type 0} (xs : List X) (i : ℕ) (x : X) (k : ℕ) (d : X) → i + 1 < length xs → i < k → get_or (replaced xs i x) k d ≡ get_or xs (k + 1) d
+replaced_behind xs i x k d inside above =
+    let place : (i + 1) % length xs ≡ i + 1 = mod-eq_of_lt inside in
+    let other : ¬ (k + 1 ≡ i) = λ e. omega arith in
+    ap (λ n. get_or (remove (set xs i x) n) k d) place
+    ∙ get_or-remove_above (set xs i x) (i + 1) d k (omega arith) (omega (arith, length-set xs i x))
+    ∙ get_or-set_other xs i (k + 1) x d other
 
 -- weights
 pub total-append : {X : Type 0} (w : X → ℕ) (xs ys : List X) → total w (xs ++ ys) ≡ total w xs + total w ys
 total-append w [] ys = omega arith
 total-append w (x ∷ xs) ys = omega (arith, total-append w xs ys)
 
+total-rotated : {X : Type 0} (w : X → ℕ) (l m : List X) → IsRotated l m → total w m ≡ total w l
+total-rotated w l m r = omega (arith, ap (total w) r.parts, ap (total w) r.turned, total-append w r.front r.behind, total-append w r.behind r.front)
+
 pub replaced-total : {X : Type 0} (w : X → ℕ) (xs : List X) (a b x : X) (ys : List X) → IsReplaced xs a b x ys → total w ys + (w a + w b) ≡ total w xs + w x
-replaced-total w xs a b x ys (inner front rest e f) =
-    omega (arith, ap (total w) e, ap (total w) f, total-append w front (a ∷ b ∷ rest), total-append w front (x ∷ rest))
-replaced-total w xs a b x ys (ends middle e f) =
-    omega (arith, ap (total w) e, ap (total w) f, total-append w middle (a ∷ []), total-append w middle (x ∷ []))
+replaced-total w xs a b x ys r = omega (arith, total-rotated w xs (a ∷ b ∷ r.rest) r.whole, total-rotated w ys (x ∷ r.rest) r.left)
+
+-- the new element weighs no more than the list that is left
+pub new_kept : {X : Type 0} (w : X → ℕ) (xs : List X) (a b x : X) (ys : List X) → IsReplaced xs a b x ys → w x ≤ total w ys
+new_kept w xs a b x ys r = omega (arith, total-rotated w ys (x ∷ r.rest) r.left)
 
 pub replaced-length : {X : Type 0} (xs : List X) (a b x : X) (ys : List X) → IsReplaced xs a b x ys → length ys + 1 ≡ length xs
-replaced-length xs a b x ys (inner front rest e f) =
-    omega (arith, ap length e, ap length f, length-append front (a ∷ b ∷ rest), length-append front (x ∷ rest))
-replaced-length xs a b x ys (ends middle e f) =
-    omega (arith, ap length e, ap length f, length-append middle (a ∷ []), length-append middle (x ∷ []))
+replaced-length xs a b x ys r = omega (arith, rotated-length xs (a ∷ b ∷ r.rest) r.whole, rotated-length ys (x ∷ r.rest) r.left)
 
 -- what holds of each element
 pub each-append : {X : Type 0} (P : X → Type 0) (xs ys : List X) → AllByRecursion P xs → AllByRecursion P ys → AllByRecursion P (xs ++ ys)
@@ -104,25 +84,16 @@ pub record EachReplaced {X : Type 0} (P : X → Type 0) (a b : X) (ys : List X) 
   pub left : AllByRecursion P ys
 
 pub each-replaced : {X : Type 0} (P : X → Type 0) (xs : List X) (a b x : X) (ys : List X) → IsReplaced xs a b x ys → AllByRecursion P xs → P x → EachReplaced P a b ys
-each-replaced P xs a b x ys (inner front rest e f) p q =
-    let all = subst (AllByRecursion P) e p in
-    let right = each-right P front (a ∷ b ∷ rest) all in
-    record { first = right.0; second = right.1.0; left = subst (AllByRecursion P) (sym f) (each-append P front (x ∷ rest) (each-left P front (a ∷ b ∷ rest) all) (q, right.1.1)) }
-each-replaced P xs a b x ys (ends middle e f) p q =
-    let all = subst (AllByRecursion P) e p in
-    let right = each-right P middle (a ∷ []) all.1 in
-    record { first = right.0; second = all.0; left = subst (AllByRecursion P) (sym f) (each-append P middle (x ∷ []) (each-left P middle (a ∷ []) all.1) (q, tt)) }
+each-replaced P xs a b x ys r p q =
+    let all = rotated_all P xs (a ∷ b ∷ r.rest) r.whole p in
+    record { first = all.0; second = all.1.0; left = rotated_all P (x ∷ r.rest) ys (rotated_back ys (x ∷ r.rest) r.left) (q, all.1.1) }
 
 -- and back
 pub each-whole : {X : Type 0} (P : X → Type 0) (xs : List X) (a b x : X) (ys : List X) → IsReplaced xs a b x ys → AllByRecursion P ys → P a → P b → AllByRecursion P xs
-each-whole P xs a b x ys (inner front rest e f) p q r =
-    let all = subst (AllByRecursion P) f p in
-    subst (AllByRecursion P) (sym e) (each-append P front (a ∷ b ∷ rest) (each-left P front (x ∷ rest) all) (q, (r, (each-right P front (x ∷ rest) all).1)))
-each-whole P xs a b x ys (ends middle e f) p q r =
-    let all = subst (AllByRecursion P) f p in
-    subst (AllByRecursion P) (sym e) (r, each-append P middle (a ∷ []) (each-left P middle (x ∷ []) all) (q, tt))
+each-whole P xs a b x ys r p q s =
+    let all = rotated_all P ys (x ∷ r.rest) r.left p in
+    rotated_all P (a ∷ b ∷ r.rest) xs (rotated_back xs (a ∷ b ∷ r.rest) r.whole) (q, (s, all.1))
 
 -- the new element is left
 pub each-new : {X : Type 0} (P : X → Type 0) (xs : List X) (a b x : X) (ys : List X) → IsReplaced xs a b x ys → AllByRecursion P ys → P x
-each-new P xs a b x ys (inner front rest e f) p = (each-right P front (x ∷ rest) (subst (AllByRecursion P) f p)).0
-each-new P xs a b x ys (ends middle e f) p = (each-right P middle (x ∷ []) (subst (AllByRecursion P) f p)).0
+each-new P xs a b x ys r p = (rotated_all P ys (x ∷ r.rest) r.left p).0

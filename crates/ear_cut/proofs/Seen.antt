@@ -1,20 +1,18 @@
 -- What edges are seen as.
-use Rattle.std.proofs.Common.{◌≡◌, ℕ, zero, suc, ◌+◌, ◌%◌, ◌<◌, ◌≤◌, List, [], ◌∷◌, ◌++◌, length, get_or, take, nat_lt, Bool, IsTrue, ◌↔◌, ap, ap₂, sym, ◌∙◌, subst, arith, inl, inr}
+use Rattle.std.proofs.Common.{◌≡◌, ℕ, zero, suc, ◌+◌, ◌%◌, ◌<◌, ◌≤◌, List, [], ◌∷◌, ◌++◌, length, get_or, take, ap, ap₂, sym, ◌∙◌, subst, arith}
 use Rattle.std.proofs.lemmas.List.{length-map, get_or-map, map-append, length-take-le, take_more}
-use Rattle.std.proofs.lemmas.Bool.{cases_Bool, cond-true, cond-false}
-use borrow.Author.Tests.{ltb-true, ltb-false}
-use native.Mathlib.Nat.{mod-lt, mod-eq_of_lt, mod_self}
+use Rattle.std.proofs.Math.Nat.{mod-lt}
 use Rattle.quad_field.specs.declared.quad.Quad.{Quad}
-use Rattle.quad_field.specs.Quads.{quad_ops, IsPositive}
+use Rattle.quad_field.specs.Quads.{quad_ops}
 use Rattle.plane.specs.Vectors.{Vector, vector, vector_sum, det}
 use Rattle.plane.specs.declared.vec2.Vec2.{Vec2}
 use Rattle.gluing.specs.Polygons.{no_vector, side_at, side_after, corner}
-use Rattle.ear_cut.specs.Cuttings.{Side, Origin, replaced, vectors_of, chord_at, HasPositiveCorner, IsEar, no_one, outer_sides}
-use Rattle.ear_cut.specs.Steps.{total, size_of, total_size, IsSmall, AreSmall, side_of, seen, origin_of, source_at}
+use Rattle.ear_cut.specs.Cuttings.{Side, Origin, replaced, vectors_of, chord_at, no_one, outer_sides}
+use Rattle.ear_cut.specs.Steps.{chord_corner, size_of, total_size, IsSmall, AreSmall, side_of, seen, origin_of, source_at}
 use Rattle.ear_cut.specs.declared.side.Edge.{Edge}
-use Rattle.ear_cut.specs.declared.side.Source.{Source}
-use Rattle.ear_cut.specs.declared.side.Source.TheVariants.{Outer, Chord, Back}
-use Rattle.ear_cut.proofs.Replaced.{IsReplaced, inner, ends, replaced-map, replaced_cases, replaced-total, total-append, behind}
+use Rattle.ear_cut.specs.declared.side.Source.TheVariants.{Outer}
+use Rattle.ear_cut.proofs.Replaced.{replaced-map, replaced_cases, replaced-total, new_kept}
+use Rattle.ear_cut.proofs.Rotations.{IsReplaced}
 use Rattle.ear_cut.proofs.Widths.{size_sum}
 
 pub seen_length : (xs : List Edge) → length (vectors_of (seen xs)) ≡ length xs
@@ -44,6 +42,14 @@ pub seen_corner : (d : ℕ) (xs : List Edge) (i k : ℕ) (e : Edge) → i < leng
     → corner d (vectors_of (seen xs)) i ≡ det (quad_ops d) (vector (get_or xs i e).vec) (vector (get_or xs k e).vec)
 seen_corner d xs i k e below same = ap₂ (det (quad_ops d)) (seen_side d xs i e below) (seen_after d xs i k e below same)
 
+-- and the chord and the side behind it
+pub seen_behind : (d : ℕ) (xs : List Edge) (i k m : ℕ) (e : Edge) (w : Vector Quad) → i < length xs → k ≡ (i + 1) % length xs → m ≡ (k + 1) % length xs → w ≡ chord_at d (vectors_of (seen xs)) i
+    → chord_corner d (vectors_of (seen xs)) i ≡ det (quad_ops d) w (vector (get_or xs m e).vec)
+seen_behind d xs i k m e w below same next chord =
+    let place : (i + 1) % length (vectors_of (seen xs)) ≡ k = ap (λ n. (i + 1) % n) (seen_length xs) ∙ sym same in
+    let inside : k < length xs = subst (λ n. n < length xs) (sym same) (place_after i (length xs) below) in
+    ap₂ (det (quad_ops d)) (sym chord) (ap (side_after d (vectors_of (seen xs))) place ∙ seen_after d xs k m e inside next)
+
 one_small : (vs : List (Vector Quad)) (i : ℕ) (v : Vector Quad) → i < length vs → size_of (get_or vs i v) ≤ total_size vs
 one_small [] i v below = absurd (omega arith)
 one_small (w ∷ vs) zero v below = omega arith
@@ -68,24 +74,8 @@ outer-more p e (w ∷ sides) v =
     ap (λ rest. let side : Side = record { vec = vector w; origin = Origin.outer p e } in side ∷ rest)
     (outer-more p (e + 1) sides v ∙ ap (λ n. let side : Side = record { vec = vector v; origin = Origin.outer p n } in outer_sides p (e + 1) sides ++ side ∷ []) same)
 
--- the element after place i is the side after side i
-after_behind : (d : ℕ) (vs : List (Vector Quad)) (i : ℕ) → i < length vs → behind vs i (no_vector d) ≡ side_after d vs i
-after_behind d vs i below =
-    elim (cases_Bool (nat_lt (i + 1) (length vs))) [
-      | inl is ↦
-          let less : i + 1 < length vs = ltb-true (i + 1) (length vs) is in
-          let place : (i + 1) % length vs ≡ i + 1 = mod-eq_of_lt less in
-          cond-true _ _ _ is ∙ ap (side_at d vs) (sym place)
-      | inr isnt ↦
-          let last : length vs ≤ i + 1 = ltb-false (i + 1) (length vs) isnt in
-          let whole : i + 1 ≡ length vs = omega arith in
-          let place : (i + 1) % length vs ≡ 0 = ap (λ n. n % length vs) whole ∙ mod_self (length vs) in
-          cond-false _ _ _ isnt ∙ ap (side_at d vs) (sym place)
-    ]
-
 swap_is : (d : ℕ) (vs : List (Vector Quad)) (i : ℕ) → i < length vs → 2 ≤ length vs → IsReplaced vs (side_at d vs i) (side_after d vs i) (chord_at d vs i) (replaced vs i (chord_at d vs i))
-swap_is d vs i below long =
-    subst (λ v. IsReplaced vs (side_at d vs i) v (chord_at d vs i) (replaced vs i (chord_at d vs i))) (after_behind d vs i below) (replaced_cases vs i (no_vector d) (chord_at d vs i) below long)
+swap_is d vs i below long = replaced_cases vs i (no_vector d) (chord_at d vs i) below long
 
 -- a list is no larger after two vectors are added
 pub replaced_small : (d : ℕ) (vs : List (Vector Quad)) (i : ℕ) → i < length vs → 2 ≤ length vs → total_size (replaced vs i (chord_at d vs i)) ≤ total_size vs
@@ -94,19 +84,7 @@ replaced_small d vs i below long =
 
 -- nor is the sum
 pub chord_small : (d : ℕ) (vs : List (Vector Quad)) (i : ℕ) → i < length vs → 2 ≤ length vs → size_of (chord_at d vs i) ≤ total_size vs
-chord_small d vs i below long = omega (arith, kept size_of vs _ _ _ _ (swap_is d vs i below long), replaced_small d vs i below long)
-  where
-    kept : {X : Type 0} (w : X → ℕ) (xs : List X) (a b x : X) (ys : List X) → IsReplaced xs a b x ys → w x ≤ total w ys
-    kept w xs a b x ys (inner front rest e f) = omega (arith, ap (total w) f, total-append w front (x ∷ rest))
-    kept w xs a b x ys (ends middle e f) = omega (arith, ap (total w) f, total-append w middle (x ∷ []))
-
--- a corner that turns to the left is an ear where a positive corner is left
-pub ear_from : (d : ℕ) (vs : List (Vector Quad)) (i : ℕ) (r : Bool) (left : List (Vector Quad)) → i < length vs → IsPositive d (corner d vs i)
-    → left ≡ replaced vs i (chord_at d vs i) → IsTrue r ↔ HasPositiveCorner d left → IsTrue r ↔ IsEar d vs i
-ear_from d vs i r left below turns e iff = (
-  λ is. (below, turns, subst (HasPositiveCorner d) e (iff.0 is)),
-  λ ear. iff.1 (subst (HasPositiveCorner d) (sym e) ear.2),
-)
+chord_small d vs i below long = omega (arith, new_kept size_of vs _ _ _ _ (swap_is d vs i below long), replaced_small d vs i below long)
 
 -- the sides of a polygon, one step on
 pub sides_step : (p e : ℕ) (vectors : List Vec2) (d : Vec2) (xs ys : List Edge) → e < length vectors → seen xs ≡ outer_sides p 0 (take e vectors)
@@ -119,18 +97,6 @@ sides_step p e vectors d xs ys below so_far more =
     ∙ ap (λ n. let side : Side = record { vec = vector (get_or vectors e d); origin = Origin.outer p n } in outer_sides p 0 (take e vectors) ++ side ∷ []) (sym zeroth)
     ∙ sym (outer-more p 0 (take e vectors) (get_or vectors e d))
     ∙ ap (outer_sides p 0) (sym (take_more vectors e d below))
-
--- two origins are one only where the sources are
-pub one_source : (a b : Source) → origin_of a ≡ origin_of b → a ≡ b
-one_source (Outer p e) (Outer q f) same = let x : p ≡ q = cc in let y : e ≡ f = cc in ap₂ Outer x y
-one_source (Outer p e) (Chord u) same = absurd (cc)
-one_source (Outer p e) (Back u) same = absurd (cc)
-one_source (Chord t) (Outer q f) same = absurd (cc)
-one_source (Chord t) (Chord u) same = let x : t ≡ u = cc in ap Chord x
-one_source (Chord t) (Back u) same = absurd (cc)
-one_source (Back t) (Outer q f) same = absurd (cc)
-one_source (Back t) (Chord u) same = absurd (cc)
-one_source (Back t) (Back u) same = let x : t ≡ u = cc in ap Back x
 
 -- where the edge at place h comes from
 pub seen_source : (xs : List Edge) (h : ℕ) (e : Edge) → h < length xs → source_at (seen xs) h ≡ origin_of (get_or xs h e).source

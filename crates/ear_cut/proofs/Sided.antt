@@ -1,14 +1,13 @@
 -- The sides of a polygon, and the two sides that an ear cuts off.
-use Rattle.std.proofs.Common.{◌≡◌, ℕ, ◌+◌, ◌%◌, ◌<◌, ◌≤◌, List, [], ◌∷◌, length, nat_lt, ap, ap₂, sym, ◌∙◌, arith, inl, inr}
-use Rattle.std.proofs.lemmas.Bool.{cases_Bool, cond-true, cond-false}
+use Rattle.std.proofs.Common.{◌≡◌, ℕ, ◌+◌, ◌%◌, ◌<◌, ◌≤◌, List, [], ◌∷◌, length, ap, ap₂, ◌∙◌, arith}
 use Rattle.std.proofs.lemmas.List.{get_or-map, length-map}
-use native.Mathlib.Nat.{mod-eq_of_lt, mod_self}
-use borrow.Author.Tests.{ltb-true, ltb-false}
+use Rattle.std.proofs.Math.Nat.{mod-lt}
 use Rattle.quad_field.specs.Quads.{quad_ops}
 use Rattle.plane.specs.Vectors.{vector_sum}
 use Rattle.gluing.specs.Polygons.{no_vector, side_at, side_after}
 use Rattle.ear_cut.specs.Cuttings.{Side, Piece, Origin, replaced, vectors_of, chord_at, at, after, no_one, left_over, IsCut}
-use Rattle.ear_cut.proofs.Replaced.{IsReplaced, replaced_cases, replaced-map, replaced-length}
+use Rattle.ear_cut.proofs.Rotations.{IsReplaced}
+use Rattle.ear_cut.proofs.Replaced.{replaced_cases, replaced-map, replaced-length}
 
 -- the vectors of side i, and of the side after it
 pub vector_at : (d : ℕ) (sides : List Side) (i : ℕ) → i < length sides → side_at d (vectors_of sides) i ≡ (at d sides i).vec
@@ -16,18 +15,8 @@ vector_at d sides i below = get_or-map (λ (side : Side). side.vec) sides i (no_
 
 pub vector_after : (d : ℕ) (sides : List Side) (i : ℕ) → i < length sides → side_after d (vectors_of sides) i ≡ (after d sides i).vec
 vector_after d sides i below =
-    let long = length-map sides (λ (side : Side). side.vec) in
-    elim (cases_Bool (nat_lt (i + 1) (length sides))) [
-      | inl is ↦
-          let less : i + 1 < length sides = ltb-true (i + 1) (length sides) is in
-          let place : (i + 1) % length (vectors_of sides) ≡ i + 1 = mod-eq_of_lt (omega arith) in
-          ap (side_at d (vectors_of sides)) place ∙ vector_at d sides (i + 1) less ∙ ap (λ (side : Side). side.vec) (sym (cond-true _ (at d sides (i + 1)) (at d sides 0) is))
-      | inr isnt ↦
-          let last : length sides ≤ i + 1 = ltb-false (i + 1) (length sides) isnt in
-          let whole : i + 1 ≡ length (vectors_of sides) = omega arith in
-          let place : (i + 1) % length (vectors_of sides) ≡ 0 = ap (λ n. n % length (vectors_of sides)) whole ∙ mod_self (length (vectors_of sides)) in
-          ap (side_at d (vectors_of sides)) place ∙ vector_at d sides 0 (omega arith) ∙ ap (λ (side : Side). side.vec) (sym (cond-false _ (at d sides (i + 1)) (at d sides 0) isnt))
-    ]
+    ap (λ n. side_at d (vectors_of sides) ((i + 1) % n)) (length-map sides (λ (side : Side). side.vec))
+    ∙ vector_at d sides ((i + 1) % length sides) (mod-lt (i + 1) (omega arith))
 
 -- the chord is the sum of the two
 pub chord_is : (d : ℕ) (sides : List Side) (i : ℕ) → i < length sides → chord_at d (vectors_of sides) i ≡ vector_sum (quad_ops d) (at d sides i).vec (after d sides i).vec

@@ -1,9 +1,7 @@
 -- The steps of the cutting of one polygon.
-use Rattle.std.proofs.Common.{◌≡◌, ℕ, ◌+◌, ◌*◌, ◌/◌, ◌%◌, ◌<◌, ◌≤◌, List, [], ◌∷◌, ◌++◌, length, get_or, nat_lt, refl, ap, sym, ◌∙◌, subst, subst₂, arith, inl, inr}
+use Rattle.std.proofs.Common.{◌≡◌, ℕ, ◌+◌, ◌*◌, ◌/◌, ◌%◌, ◌<◌, ◌≤◌, List, [], ◌∷◌, ◌++◌, length, get_or, refl, ap, sym, ◌∙◌, subst, subst₂, arith}
 use Rattle.std.proofs.lemmas.List.{length-map, get_or-map, length-append, map-append, append-nil, append_assoc}
-use Rattle.std.proofs.lemmas.Bool.{cases_Bool, cond-true, cond-false}
-use native.Mathlib.Nat.{mod-eq_of_lt, mod_self}
-use borrow.Author.Tests.{ltb-true, ltb-false}
+use Rattle.std.proofs.Math.Nat.{mod-lt}
 use Rattle.quad_field.specs.declared.quad.Quad.{Quad}
 use Rattle.quad_field.specs.Quads.{quad_ops}
 use Rattle.quad_field.specs.FieldNumber.{IsFieldNumber}
@@ -28,39 +26,34 @@ seen_at d xs i e below = sym (get_or-map side_of xs i e (no_one d) below)
 
 seen_next : (d : ℕ) (xs : List Edge) (i k : ℕ) (e : Edge) → i < length xs → k ≡ (i + 1) % length xs → side_of (get_or xs k e) ≡ after d (seen xs) i
 seen_next d xs i k e below same =
-    let long = length-map xs side_of in
-    elim (cases_Bool (nat_lt (i + 1) (length (seen xs)))) [
-      | inl is ↦
-          let less : i + 1 < length (seen xs) = ltb-true (i + 1) (length (seen xs)) is in
-          let less_too : i + 1 < length xs = omega arith in
-          let place : k ≡ i + 1 = same ∙ mod-eq_of_lt less_too in
-          ap (λ n. side_of (get_or xs n e)) place ∙ seen_at d xs (i + 1) e less_too ∙ sym (cond-true _ (at d (seen xs) (i + 1)) (at d (seen xs) 0) is)
-      | inr isnt ↦
-          let last : length (seen xs) ≤ i + 1 = ltb-false (i + 1) (length (seen xs)) isnt in
-          let whole : i + 1 ≡ length xs = omega arith in
-          let place : k ≡ 0 = same ∙ ap (λ n. n % length xs) whole ∙ mod_self (length xs) in
-          ap (λ n. side_of (get_or xs n e)) place ∙ seen_at d xs 0 e (omega arith) ∙ sym (cond-false _ (at d (seen xs) (i + 1)) (at d (seen xs) 0) isnt)
-    ]
+    let place : k ≡ (i + 1) % length (seen xs) = same ∙ ap (λ n. (i + 1) % n) (sym (length-map xs side_of)) in
+    let inside : k < length xs = subst (λ n. n < length xs) (sym same) (mod-lt (i + 1) (omega arith)) in
+    seen_at d xs k e inside ∙ ap (at d (seen xs)) place
 
 abbrev edge : Vec2 → Source → Edge
 edge v source = record { vec = v; source = source }
 
+-- the chord of triangle t
+abbrev pub edge_of : Vec2 → ℕ → Edge
+edge_of chord t = edge chord (Chord t)
+
 -- the sides of the triangle that is cut off
-pub ear_appended : (d t : ℕ) (sides : List Edge) (i k : ℕ) (e f : Edge) (before one two three : List Edge) (chord back : Vec2) → i < length sides → k ≡ (i + 1) % length sides
+pub ear_appended : (d t : ℕ) (sides : List Edge) (i k : ℕ) (a b : Edge) (before one two three : List Edge) (chord back : Vec2) → i < length sides → k ≡ (i + 1) % length sides
+    → a ≡ get_or sides i a → b ≡ get_or sides k b
     → vector chord ≡ chord_at d (vectors_of (seen sides)) i → vector back ≡ opposite_vector (quad_ops d) (vector chord)
-    → one ≡ before ++ get_or sides i e ∷ [] → two ≡ one ++ get_or sides k f ∷ [] → three ≡ two ++ edge back (Back t) ∷ []
+    → one ≡ before ++ a ∷ [] → two ≡ one ++ b ∷ [] → three ≡ two ++ edge back (Back t) ∷ []
     → seen three ≡ seen before ++ sides_of (ear d t (seen sides) i ∷ [])
-ear_appended d t sides i k e f before one two three chord back below same is_chord is_back p q r =
-    let a = get_or sides i e in
-    let b = get_or sides k f in
+ear_appended d t sides i k a b before one two three chord back below same is_a is_b is_chord is_back p q r =
     let c = edge back (Back t) in
     let all : three ≡ before ++ a ∷ b ∷ c ∷ [] =
     r ∙ ap (λ xs. xs ++ c ∷ []) (q ∙ ap (λ xs. xs ++ b ∷ []) p)
     ∙ ap (λ xs. xs ++ c ∷ []) (append_assoc before (a ∷ []) (b ∷ [])) ∙ append_assoc before (a ∷ b ∷ []) (c ∷ []) in
+    let first : side_of a ≡ at d (seen sides) i = ap side_of is_a ∙ seen_at d sides i a below in
+    let second : side_of b ≡ after d (seen sides) i = ap side_of is_b ∙ seen_next d sides i k b below same in
     let third : vector back ≡ opposite_vector (quad_ops d) (chord_at d (vectors_of (seen sides)) i) = is_back ∙ ap (opposite_vector (quad_ops d)) is_chord in
     ap seen all ∙ map-append side_of before (a ∷ b ∷ c ∷ [])
-    ∙ ap (λ (x : Side). seen before ++ x ∷ side_of b ∷ side_of c ∷ []) (seen_at d sides i e below)
-    ∙ ap (λ (x : Side). seen before ++ at d (seen sides) i ∷ x ∷ side_of c ∷ []) (seen_next d sides i k f below same)
+    ∙ ap (λ (x : Side). seen before ++ x ∷ side_of b ∷ side_of c ∷ []) first
+    ∙ ap (λ (x : Side). seen before ++ at d (seen sides) i ∷ x ∷ side_of c ∷ []) second
     ∙ ap (λ (v : Vector Quad). let last : Side = record { vec = v; origin = Origin.back t } in seen before ++ at d (seen sides) i ∷ after d (seen sides) i ∷ last ∷ []) third
 
 -- what is left of the sides
@@ -165,11 +158,10 @@ pub record IsFurther (d t : ℕ) (polygon : List Side) (before sides middle behi
   pub shorter : IsShorter d sides middle behind left
   pub so_far : IsCutTo d t polygon (seen before) (seen behind) (seen left)
 
-pub cut_on : (d n m : ℕ) (polygon : List Side) (before same sides middle behind left : List Edge) → same ≡ sides → IsFieldNumber d → 4 ≤ length sides → IsCuttable d (vectors_of (seen sides)) → AreSmall (vectors_of (seen sides))
-    → length before ≡ n → n % 3 ≡ 0 → length middle ≡ m → IsCutTo d (n / 3) polygon (seen before) (seen middle) (seen sides) → IsEarCut d (m / 3) (seen same) (seen middle) (seen behind) (seen left)
+pub cut_on : (d n m : ℕ) (polygon : List Side) (before sides middle behind left : List Edge) → IsFieldNumber d → 4 ≤ length sides → IsCuttable d (vectors_of (seen sides)) → AreSmall (vectors_of (seen sides))
+    → length before ≡ n → n % 3 ≡ 0 → length middle ≡ m → IsCutTo d (n / 3) polygon (seen before) (seen middle) (seen sides) → IsEarCut d (m / 3) (seen sides) (seen middle) (seen behind) (seen left)
     → IsFurther d (n / 3) polygon before sides middle behind left
-cut_on d n m polygon before same sides middle behind left e field long cuttable small is_n whole is_m so_far cut =
-    let here : IsEarCut d (m / 3) (seen sides) (seen middle) (seen behind) (seen left) = subst (λ xs. IsEarCut d (m / 3) (seen xs) (seen middle) (seen behind) (seen left)) e cut in
+cut_on d n m polygon before sides middle behind left field long cuttable small is_n whole is_m so_far here =
     let count = cut_count d (n / 3) polygon before middle (seen sides) so_far in
     record {
       shorter = ear_shorter d (m / 3) sides middle behind left field long cuttable small here;

@@ -15,7 +15,7 @@ use Rattle.ear_cut.specs.Cuttings.{Side, Piece, at, after, ear, left_over, outer
 use Rattle.ear_cut.specs.Cuttable.{IsCuttable}
 use Rattle.ear_cut.specs.Steps.{total, size_of, total_size, IsSmall, AreCuttable}
 use Rattle.ear_cut.proofs.Widths.{size_sum, size_opposite}
-use Rattle.ear_cut.proofs.Replaced.{each-append, replaced-total, IsReplaced, inner, ends, total-append}
+use Rattle.ear_cut.proofs.Replaced.{each-append, replaced-total, new_kept}
 use Rattle.ear_cut.proofs.Sided.{left_is, left_vectors, chord_side, chord_is, vector_at, vector_after}
 use Rattle.ear_cut.proofs.Ears.{cuttable_left, last_turns, last_closed}
 
@@ -53,10 +53,6 @@ two_small d t sides i below long =
     let swap = replaced-total side_size sides _ _ _ _ (left_is d t sides i below long) in
     let kept : side_size (chord_side d t sides i) ≤ total side_size (left_over d t sides i) = new_kept side_size sides _ _ _ _ (left_is d t sides i below long) in
     omega (arith, swap, kept)
-  where
-    new_kept : {X : Type 0} (w : X → ℕ) (xs : List X) (a b x : X) (ys : List X) → IsReplaced xs a b x ys → w x ≤ total w ys
-    new_kept w xs a b x ys (inner front rest e f) = omega (arith, ap (total w) f, total-append w front (x ∷ rest))
-    new_kept w xs a b x ys (ends middle e f) = omega (arith, ap (total w) f, total-append w middle (x ∷ []))
 
 -- the ear that is cut off
 good_ear : (d t : ℕ) (sides : List Side) (i : ℕ) → i < length sides → 2 ≤ length sides → total side_size sides ≤ 1032000000000

@@ -40,11 +40,11 @@ one_cut d t sides (a ∷ x ∷ ps) (b ∷ y ∷ qs) p q =
     let rest = one_cut d (t + 1) (left_over d t sides p.1.0) (x ∷ ps) (y ∷ qs) p.1.3 (subst (λ i. IsCut d (t + 1) (left_over d t sides i) (y ∷ qs)) (sym same) q.1.3) in
     ap₂ (λ (x : Piece) (xs : List Piece). x ∷ xs) first rest
 
-pub one_cutting : (d p t : ℕ) (polygons : List (List Vec2)) (ps qs : List Piece) → AreCut d p t polygons ps → AreCut d p t polygons qs → ps ≡ qs
-one_cutting d p t [] ps qs a b = a ∙ sym b
-one_cutting d p t (sides ∷ polygons) ps qs a b =
+pub same_pieces : (d p t : ℕ) (polygons : List (List Vec2)) (ps qs : List Piece) → AreCut d p t polygons ps → AreCut d p t polygons qs → ps ≡ qs
+same_pieces d p t [] ps qs a b = a ∙ sym b
+same_pieces d p t (sides ∷ polygons) ps qs a b =
     let own : a.0 ≡ b.0 = one_cut d t (outer_sides p 0 sides) a.0 b.0 a.3 b.3 in
-    let more : a.1 ≡ b.1 = one_cutting d (p + 1) (t + length a.0) polygons a.1 b.1 a.4 (subst (λ n. AreCut d (p + 1) (t + n) polygons b.1) (sym (ap length own)) b.4) in
+    let more : a.1 ≡ b.1 = same_pieces d (p + 1) (t + length a.0) polygons a.1 b.1 a.4 (subst (λ n. AreCut d (p + 1) (t + n) polygons b.1) (sym (ap length own)) b.4) in
     a.2 ∙ ap₂ (λ (x y : List Piece). x ++ y) own more ∙ sym b.2
 
 -- one polygon more

@@ -1,5 +1,5 @@
--- How polygons are cut into triangles, ear by ear.
-use Rattle.std.specs.Prelude.{◌≡◌, ℕ, ◌+◌, ◌<◌, nat_lt, if◌then◌else◌, List, [], ◌∷◌, ◌++◌, length, take, drop, map, slice_index_or}
+-- How polygons are cut into triangles, ear by ear (G. H. Meisters, Polygons have ears, American Mathematical Monthly 82, 1975).
+use Rattle.std.specs.Prelude.{◌≡◌, ℕ, ◌+◌, ◌%◌, ◌<◌, List, [], ◌∷◌, ◌++◌, length, map, remove, slice_index_or, slice_set}
 use Rattle.std.specs.List.{flat_map}
 use Rattle.quad_field.specs.Quads.{quad_ops, IsPositive}
 use Rattle.quad_field.specs.declared.quad.Quad.{Quad}
@@ -43,12 +43,9 @@ HasPositiveCorner d sides = (i : ℕ) × (i < length sides) × IsPositive d (cor
 abbrev pub chord_at : ℕ → List (Vector Quad) → ℕ → Vector Quad
 chord_at d sides i = vector_sum (quad_ops d) (side_at d sides i) (side_after d sides i)
 
--- a new side in place of side i, and the side after it removed, which is side 0 where i is the last
+-- the sides with a new one in place of side i, and without the side after it, round the end
 abbrev pub replaced : {X : Type 0} → List X → ℕ → X → List X
-replaced sides i new =
-    if nat_lt (i + 1) (length sides)
-    then take i sides ++ new ∷ drop (i + 2) sides
-    else drop 1 (take i sides) ++ new ∷ []
+replaced sides i new = remove (slice_set sides i new) ((i + 1) % length sides)
 
 -- corner i is an ear: its determinant is positive, and cutting it leaves a list with some positive corner
 abbrev pub IsEar : ℕ → List (Vector Quad) → ℕ → Type 0
@@ -59,16 +56,17 @@ IsEar d sides i =
 abbrev pub IsLeastEar : ℕ → List (Vector Quad) → ℕ → Type 0
 IsLeastEar d sides i = IsEar d sides i × ((k : ℕ) → k < i → ¬ (IsEar d sides k))
 
--- past the end no definition asks it
+-- what is read past the end of a list of sides; no definition asks it there
 abbrev pub no_one : ℕ → Side
 no_one d = record { vec = no_vector d; origin = Origin.outer 0 0 }
 
--- side i, and the side after it round the end
+-- side i of a polygon that is being cut
 abbrev pub at : ℕ → List Side → ℕ → Side
 at d sides i = slice_index_or sides i (no_one d)
 
+-- the side after side i, round the end
 abbrev pub after : ℕ → List Side → ℕ → Side
-after d sides i = if nat_lt (i + 1) (length sides) then at d sides (i + 1) else at d sides 0
+after d sides i = at d sides ((i + 1) % length sides)
 
 -- triangle t, cut off at corner i: the two sides, and the opposite of their sum
 abbrev pub ear : ℕ → ℕ → List Side → ℕ → Piece
@@ -78,7 +76,7 @@ ear d t sides i = record {
   third = record { vec = opposite_vector (quad_ops d) (chord_at d (vectors_of sides) i); origin = Origin.back t };
 }
 
--- what is left of the sides: their sum in the place of the two
+-- what is left of the sides when triangle t is cut off at corner i: the sum of the two stands in their place
 abbrev pub left_over : ℕ → ℕ → List Side → ℕ → List Side
 left_over d t sides i = replaced sides i (record { vec = chord_at d (vectors_of sides) i; origin = Origin.chord t })
 

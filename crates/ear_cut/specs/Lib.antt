@@ -1,3 +1,4 @@
 pub mod Cuttings
 pub mod Cuttable
 pub mod Steps
+pub mod Slots

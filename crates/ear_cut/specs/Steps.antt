@@ -1,15 +1,17 @@
--- What the steps of the cutting give.
-use Rattle.std.specs.Prelude.{◌≡◌, ℕ, ◌+◌, ◌<◌, ◌≤◌, List, [], ◌∷◌, ◌++◌, length, map, unsigned_abs, ⊤}
+-- What the steps of the cutting give; only private clauses cite it.
+use Rattle.std.specs.Prelude.{◌≡◌, ℕ, ◌+◌, ◌%◌, ◌<◌, ◌≤◌, List, [], ◌∷◌, ◌++◌, length, map, unsigned_abs, ⊤}
 use Rattle.std.specs.List.{AllByRecursion}
 use Rattle.quad_field.specs.declared.quad.Quad.{Quad}
-use Rattle.plane.specs.Vectors.{Vector, vector}
+use Rattle.quad_field.specs.Quads.{quad_ops}
+use Rattle.plane.specs.Vectors.{Vector, vector, det}
 use Rattle.plane.specs.declared.vec2.Vec2.{Vec2}
 use Rattle.surface_text.specs.declared.file.Glue.{Glue}
 use Rattle.surface_text.specs.Limits.{IsThere}
 use Rattle.tri_core.specs.declared.half.Half.{Half}
 use Rattle.tri_core.specs.HalfEdges.{twin_at}
+use Rattle.gluing.specs.Polygons.{side_after}
 use Rattle.gluing.specs.Gluings.{Gluing}
-use Rattle.ear_cut.specs.Cuttings.{Origin, Side, Piece, ArePartners, AreCut, IsCut, IsLeastEar, at, ear, left_over, sides_of, vectors_of}
+use Rattle.ear_cut.specs.Cuttings.{Origin, Side, Piece, ArePartners, AreCut, IsCut, IsLeastEar, at, chord_at, ear, left_over, sides_of, vectors_of}
 use Rattle.ear_cut.specs.Cuttable.{IsCuttable}
 use Rattle.ear_cut.specs.declared.side.Edge.{Edge}
 use Rattle.ear_cut.specs.declared.side.Source.{Source}
@@ -28,6 +30,10 @@ side_of edge = record { vec = vector edge.vec; origin = origin_of edge.source }
 -- the sides that edges are
 abbrev pub seen : List Edge → List Side
 seen edges = map side_of edges
+
+-- the determinant of the chord at corner i and the side behind it
+abbrev pub chord_corner : ℕ → List (Vector Quad) → ℕ → Quad
+chord_corner d sides i = det (quad_ops d) (chord_at d sides i) (side_after d sides ((i + 1) % length sides))
 
 -- the absolute values of a vector's four parts, added
 abbrev pub size_of : Vector Quad → ℕ

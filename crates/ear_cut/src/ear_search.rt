@@ -1,16 +1,17 @@
 //! The least ear of a polygon.
 
-ghost use Rattle.std.specs.Prelude.{◌≡◌, ℕ, ◌+◌, ◌%◌, ◌<◌, ◌≤◌, ◌↔◌, length, IsTrue, IfOk};
+ghost use Rattle.std.specs.Prelude.{◌≡◌, ℕ, ◌+◌, ◌%◌, ◌<◌, ◌≤◌, ◌↔◌, length, IsTrue};
 ghost use Rattle.quad_field.specs.Quads.{quad_ops, IsPositive};
+ghost use Rattle.quad_field.specs.FieldNumber.{IsFieldNumber};
 ghost use Rattle.plane.specs.Vectors.{vector, vector_sum, opposite_vector, det as determinant};
 ghost use Rattle.gluing.specs.Polygons.{corner};
-ghost use Rattle.ear_cut.specs.Cuttings.{HasPositiveCorner, IsEar, IsLeastEar, chord_at, replaced, vectors_of};
-ghost use Rattle.ear_cut.specs.Steps.{seen, IsSmall, AreSmall};
+ghost use Rattle.ear_cut.specs.Cuttings.{IsEar, IsLeastEar, chord_at, vectors_of};
+ghost use Rattle.ear_cut.specs.Cuttable.{IsCuttable};
+ghost use Rattle.ear_cut.specs.Steps.{seen, chord_corner, IsSmall, AreSmall};
 
 use super::side::Edge;
 use plane::{Vec2, det, opposite, sum};
 use quad_field::{Field, Sign};
-use std::alloc::{AllocError, Global};
 
 /// Whether u and v turn to the left.
 fn is_left(f: &Field, u: &Vec2, v: &Vec2) -> bool
@@ -21,19 +22,19 @@ fn is_left(f: &Field, u: &Vec2, v: &Vec2) -> bool
 {
     match det(f, u, v) {
         Ok(area) => f.sign(area) == Sign::Plus,
-        Err(_) => false,
+        Err(_) => unreachable!(),
     }
 }
 
 /// u + v.
-pub(crate) fn joined(f: &Field, u: &Vec2, v: &Vec2) -> Vec2
+fn joined(f: &Field, u: &Vec2, v: &Vec2) -> Vec2
     requires first { IsSmall (vector u.now) }
     requires second { IsSmall (vector v.now) }
     ensures { vector result ≡ vector_sum (quad_ops f.now) (vector u.now) (vector v.now) }
 {
     match sum(f, u, v) {
         Ok(w) => w,
-        Err(_) => *u,
+        Err(_) => unreachable!(),
     }
 }
 
@@ -44,7 +45,7 @@ pub(crate) fn turned_back(f: &Field, u: &Vec2) -> Vec2
 {
     match opposite(f, u) {
         Ok(w) => w,
-        Err(_) => *u,
+        Err(_) => unreachable!(),
     }
 }
 
@@ -77,75 +78,45 @@ fn turns_left(f: &Field, sides: &[Edge], i: usize) -> bool
     is_left(f, &sides[i].vec, &sides[after].vec)
 }
 
-/// Whether some corner has a positive determinant.
-fn has_left_corner(f: &Field, sides: &[Edge]) -> bool
-    requires field { f.now ≤ 1000 }
-    requires small { AreSmall (vectors_of (seen sides.now)) }
-    ensures { IsTrue result ↔ HasPositiveCorner f.now (vectors_of (seen sides.now)) }
-{
-    for k in 0..sides.len() {
-        if turns_left(f, sides, k) {
-            return true;
-        }
-    }
-    false
-}
-
-/// The sides with a new one in place of side i, and without the side after it.
-pub(crate) fn with_chord(
-    alloc: Global,
-    sides: &[Edge],
-    i: usize,
-    new: Edge,
-) -> Result<Vec<Edge>, AllocError>
-    requires long { 4 ≤ length sides.now }
-    requires place { i < length sides.now }
-    ensures { IfOk result (λ left. left.items ≡ replaced sides.now i new) }
-{
-    let n = sides.len();
-    let mut left = Vec::with_capacity(alloc, n)?;
-    if i + 1 < n {
-        left.extend_from_slice(&sides[..i])?;
-        left.push(new)?;
-        left.extend_from_slice(&sides[i + 2..])?;
-    } else {
-        left.extend_from_slice(&sides[1..i])?;
-        left.push(new)?;
-    }
-    Ok(left)
-}
-
-/// Whether corner i is an ear.
-fn is_ear(alloc: Global, f: &Field, sides: &[Edge], i: usize) -> Result<bool, AllocError>
+/// Whether the chord of corner i turns to the left into the side behind it.
+fn chord_turns_left(f: &Field, sides: &[Edge], i: usize) -> bool
     requires field { f.now ≤ 1000 }
     requires long { 4 ≤ length sides.now }
     requires place { i < length sides.now }
     requires small { AreSmall (vectors_of (seen sides.now)) }
-    ensures { IfOk result (λ b. IsTrue b ↔ IsEar f.now (vectors_of (seen sides.now)) i) }
+    ensures { IsTrue result ↔ IsPositive f.now (chord_corner f.now (vectors_of (seen sides.now)) i) }
 {
-    if !turns_left(f, sides, i) {
-        return Ok(false);
-    }
-    let new = Edge {
-        vec: chord(f, sides, i),
-        source: sides[i].source,
-    };
-    let left = with_chord(alloc, sides, i, new)?;
-    Ok(has_left_corner(f, &left))
+    let after = next_place(i, sides.len());
+    let behind = next_place(after, sides.len());
+    is_left(f, &chord(f, sides, i), &sides[behind].vec)
 }
 
-/// The least ear, where there is one.
-pub(crate) fn least_ear(alloc: Global, f: &Field, sides: &[Edge]) -> Result<usize, AllocError>
-    requires field { f.now ≤ 1000 }
+/// Whether corner i is an ear. What is left of a convex polygon has some positive corner exactly where the chord turns
+/// to the left into the side behind it.
+fn is_ear(f: &Field, sides: &[Edge], i: usize) -> bool
+    requires field { IsFieldNumber f.now }
+    requires long { 4 ≤ length sides.now }
+    requires place { i < length sides.now }
+    requires small { AreSmall (vectors_of (seen sides.now)) }
+    requires cuttable { IsCuttable f.now (vectors_of (seen sides.now)) }
+    ensures { IsTrue result ↔ IsEar f.now (vectors_of (seen sides.now)) i }
+{
+    turns_left(f, sides, i) && chord_turns_left(f, sides, i)
+}
+
+/// The least ear, sought from corner `first` on: no corner before it is an ear.
+pub(crate) fn least_ear(f: &Field, sides: &[Edge], first: usize) -> usize
+    requires field { IsFieldNumber f.now }
     requires long { 4 ≤ length sides.now }
     requires small { AreSmall (vectors_of (seen sides.now)) }
-    requires some { (i : ℕ) × IsEar f.now (vectors_of (seen sides.now)) i }
-    ensures { IfOk result (IsLeastEar f.now (vectors_of (seen sides.now))) }
+    requires cuttable { IsCuttable f.now (vectors_of (seen sides.now)) }
+    requires passed { (k : ℕ) → k < first → ¬ (IsEar f.now (vectors_of (seen sides.now)) k) }
+    ensures { IsLeastEar f.now (vectors_of (seen sides.now)) result }
 {
-    for i in 0..sides.len() {
-        if is_ear(alloc, f, sides, i)? {
-            return Ok(i);
+    for i in first..sides.len() {
+        if is_ear(f, sides, i) {
+            return i;
         }
     }
-    Ok(0)
+    unreachable!()
 }

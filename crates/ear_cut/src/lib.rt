@@ -4,6 +4,7 @@
 
 mod cutting;
 mod ear_search;
+pub mod laws;
 mod polygons;
 mod side;
 mod twins;

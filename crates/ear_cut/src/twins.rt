@@ -1,16 +1,15 @@
 //! The twins of the sides of triangles.
 
-ghost use Rattle.std.specs.Prelude.{◌≡◌, ℕ, ◌<◌, ◌≤◌, ◌↔◌, length, map, IfOk, IsTrue};
-ghost use Rattle.tri_core.specs.declared.half.Half.{Half as HalfValue};
-ghost use Rattle.tri_core.specs.HalfEdges.{twin_at};
-ghost use Rattle.plane.specs.Vectors.{vector};
-ghost use Rattle.gluing.specs.Gluings.{Gluing};
-ghost use Rattle.ear_cut.specs.Cuttings.{ArePartners, at, vectors_of};
-ghost use Rattle.ear_cut.specs.Steps.{seen, origin_of, source_at, IsSourceThere, HasSource, HasPartners, AreTwinsOf};
+ghost use Rattle.std.specs.Prelude.{◌≡◌, ◌+◌, ◌*◌, ◌^◌, ◌<◌, ◌≤◌, length, map, slice_index, vec_len, IfOk};
+ghost use Rattle.surface_text.specs.declared.file.Polygon.{Polygon as PolygonValue};
+ghost use Rattle.ear_cut.specs.Cuttings.{ArePartners, IsEarCutting};
+ghost use Rattle.ear_cut.specs.Steps.{seen, origin_of, IsSourceThere, ArePolygonsCut};
+ghost use Rattle.ear_cut.specs.Slots.{side_count, slot_count, slot_in, AreFirstSlots, HasFirstSlot, AreSlots, ArePlaces};
 
 use super::side::{Edge, Source};
 use gluing::Glued;
 use std::alloc::{AllocError, Global};
+use surface_text::Polygon;
 use tri_core::Half;
 
 /// Where the twin of a side comes from.
@@ -28,44 +27,80 @@ fn partner(glued: &Glued, source: Source) -> Source
     }
 }
 
-/// Whether the edge comes from there.
-fn comes_from(edge: &Edge, source: Source) -> bool
-    ensures { IsTrue result ↔ (edge.now.source ≡ source) }
+/// The slots of the polygons' first sides in a table of places: the chords of so many triangles and their opposites come
+/// first, and then the sides of one polygon after another. Last the number of all slots.
+fn first_slots(
+    alloc: Global,
+    triangles: usize,
+    polygons: &[Polygon],
+) -> Result<Vec<usize>, AllocError>
+    requires { 2 * triangles + side_count (map (λ (polygon : PolygonValue). polygon.sides.items) polygons.now) ≤ 1280 }
+    ensures { IfOk result (λ first. AreFirstSlots triangles (map (λ (polygon : PolygonValue). polygon.sides.items) polygons.now) first.items) }
 {
-    edge.source == source
-}
-
-/// The number of the side that comes from there, found by looking through all sides: there are at most 768.
-fn place_of(edges: &[Edge], source: Source) -> u32
-    requires few { length edges.now ≤ 768 }
-    requires there { HasSource (seen edges.now) (origin_of source) }
-    ensures place { result < length edges.now }
-    ensures source { source_at (seen edges.now) result ≡ origin_of source }
-{
-    for (h, edge) in edges.iter().enumerate() {
-        if comes_from(edge, source) {
-            return h as u32;
-        }
+    let mut slot = 2 * triangles;
+    let mut first = Vec::with_capacity(alloc, polygons.len())?;
+    first.push(slot)?;
+    for polygon in polygons {
+        slot += polygon.sides.len();
+        first.push(slot)?;
     }
-    0
+    Ok(first)
 }
 
-/// The half-edges of triangles with these sides.
+/// The slot of a side in a table of places.
+fn slot_of(first: &[usize], source: Source) -> usize
+    requires there { HasFirstSlot first.now (origin_of source) }
+    requires fits { slot_in first.now (origin_of source) < 2 ^ 64 }
+    ensures { result ≡ slot_in first.now (origin_of source) }
+{
+    match source {
+        Source::Outer { p, e } => first[p as usize] + e as usize,
+        Source::Chord { t } => 2 * t as usize,
+        Source::Back { t } => 2 * t as usize + 1,
+    }
+}
+
+/// The table of places: in the slot of each side stands its number.
+fn places_of(alloc: Global, first: &[usize], edges: &[Edge]) -> Result<Vec<u32>, AllocError>
+    requires some { 1 ≤ length first.now }
+    requires few { length edges.now ≤ 768 }
+    requires slots { AreSlots first.now (seen edges.now) }
+    ensures long { IfOk result (λ places. vec_len places ≡ slot_count first.now) }
+    ensures places { IfOk result (λ places. ArePlaces first.now (seen edges.now) (length edges.now) places.items) }
+{
+    let mut places = vec![in alloc; 0; first[first.len() - 1]]?;
+    for (h, edge) in edges.iter().enumerate() {
+        places[slot_of(first, edge.source)] = h as u32;
+    }
+    Ok(places)
+}
+
+/// The number of a side, found in its slot.
+fn place_of(first: &[usize], places: &[u32], source: Source) -> u32
+    requires there { HasFirstSlot first.now (origin_of source) }
+    requires inside { slot_in first.now (origin_of source) < length places.now }
+    ensures { result ≡ slice_index places.now (slot_in first.now (origin_of source)) }
+{
+    places[slot_of(first, source)]
+}
+
+/// The half-edges of the triangles that glued polygons are cut into.
 pub(crate) fn half_edges(
     alloc: Global,
     glued: &Glued,
     edges: &[Edge],
 ) -> Result<Vec<Half>, AllocError>
-    requires few { length edges.now ≤ 768 }
-    requires partners { HasPartners glued.now (seen edges.now) }
-    ensures vectors { IfOk result (λ halves. map (λ (half : HalfValue). vector half.vec) halves.items ≡ vectors_of (seen edges.now)) }
-    ensures twins { IfOk result (λ halves. AreTwinsOf glued.now.glues (seen edges.now) halves.items) }
+    requires { ArePolygonsCut glued.now.field glued.now.polygons (seen edges.now) }
+    ensures { IfOk result (λ halves. IsEarCutting glued.now halves.items) }
 {
+    let first = first_slots(alloc, edges.len() / 3, glued.polygons())?;
+    let places = places_of(alloc, &first, edges)?;
     let mut halves = Vec::with_capacity(alloc, edges.len())?;
     for edge in edges {
+        let other = partner(glued, edge.source);
         halves.push(Half {
             vec: edge.vec,
-            twin: place_of(edges, partner(glued, edge.source)),
+            twin: place_of(&first, &places, other),
         })?;
     }
     Ok(halves)
