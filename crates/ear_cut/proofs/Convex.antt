@@ -17,7 +17,10 @@ use Rattle.ear_cut.specs.Cuttings.{HasPositiveCorner}
 use Rattle.ear_cut.specs.Cuttable.{NeverTurnsRight, IsCuttable}
 use Rattle.ear_cut.proofs.Rotations.{IsRotated, rotated_back, rotated_all}
 use Rattle.ear_cut.proofs.Corners.{side_rotated, two_steps, positive_rotated}
-use Rattle.ear_cut.proofs.Turning.{NN, nn_of, not_negative, total, total_turned, InConvexPosition, convex_turned, Upper, Goes, Chain, chain_of, rising_convex}
+use Rattle.rings.specs.Vectors.{IsUpper}
+use Rattle.rings.proofs.Signs.{never_below, not_negative_or, not_zero}
+use Rattle.ear_cut.proofs.Sorted.{NN, total, Chain}
+use Rattle.ear_cut.proofs.ConvexPosition.{total_turned, InConvexPosition, convex_turned, Goes, chain_of, rising_convex}
 
 -- the first place where F holds
 pub record IsFirst (F : ℕ → Type 0) (n : ℕ) : Type 0 where
@@ -72,18 +75,21 @@ module _ (d : ℕ) (field : IsFieldNumber d) where
   abbrev pub Convex : List Vec → Type 0
   Convex l = InConvexPosition O ring order l
 
+  not_negative : {x : Quad} → ¬ (IsPositive d (O.neg x)) → NN O ring order x
+  not_negative {x} not = elim (not_negative_or O ring order x) [ inl h ↦ h | inr n ↦ absurd (not n) ]
+
   pub total_is : (l : List Vec) → total O ring order l ≡ sum_of d l
   total_is [] = refl
   total_is (v ∷ l) = ap (vector_sum O v) (total_is l)
 
   pub never_right : (l : List Vec) → Convex l → NeverTurnsRight d l
   never_right l convex a x y b e n =
-      not_negative O ring order _ (convex a x y b e) (subst (λ u. IsPositive d (O.neg (det O u (total O ring order y)))) (sym (total_is x))
+      never_below O ring order _ (convex a x y b e) (subst (λ u. IsPositive d (O.neg (det O u (total O ring order y)))) (sym (total_is x))
       (subst (λ v. IsPositive d (O.neg (det O (sum_of d x) v))) (sym (total_is y)) n))
 
   pub convex_of : (l : List Vec) → NeverTurnsRight d l → Convex l
   convex_of l never a x y b e =
-      nn_of O ring order _ (λ n. never a x y b e (subst (λ u. IsPositive d (O.neg (det O u (sum_of d y)))) (total_is x)
+      not_negative (λ n. never a x y b e (subst (λ u. IsPositive d (O.neg (det O u (sum_of d y)))) (total_is x)
       (subst (λ v. IsPositive d (O.neg (det O (total O ring order x) v))) (total_is y) n)))
 
   -- ---- signs
@@ -105,7 +111,7 @@ module _ (d : ℕ) (field : IsFieldNumber d) where
   zero_from x (inr p) not = absurd (not p)
 
   pub positive_nonzero : (x : Quad) → IsPositive d x → ¬ (x ≡ zero_of d)
-  positive_nonzero x p e = order.zero_is_not (subst (IsPositive d) e p)
+  positive_nonzero x p = not_zero O ring order x p
 
   pub some_or_none : (l : List Vec) → HasPositiveCorner d l ⊎ ((i : ℕ) → i < length l → ¬ (IsPositive d (corner d l i)))
   some_or_none l = elim (first_below (λ i. IsPositive d (corner d l i)) (λ i. positive_or_not (corner d l i)) (length l)) [
@@ -154,7 +160,7 @@ module _ (d : ℕ) (field : IsFieldNumber d) where
     -- at every other corner the polygon goes on
     goes_at : (i : ℕ) → i < n → ¬ (i ≡ rise) → Goes O ring order (side_at d sides i) (side_after d sides i)
     goes_at i inside other = (
-      nn_of O ring order _ (proper.convex.never_right i inside),
+      not_negative (proper.convex.never_right i inside),
       λ rises. other (proper.convex.once.3 i inside (rises.0, rises.1)),
     )
 
@@ -197,7 +203,7 @@ module _ (d : ℕ) (field : IsFieldNumber d) where
         let first : x ≡ side_after d sides rise =
         sym (ap (λ m. side_at d m 0) e) ∙ side_rotated d sides begun rotated 0 (omega (arith, proper.convex.once.1))
         ∙ ap (λ m. side_at d sides ((m + 0) % n)) front_long ∙ ap (λ m. side_at d sides (m % n)) zeroth in
-        let upper : Upper O ring order x = subst (Upper O ring order) (sym first) proper.convex.once.2.1 in
+        let upper : IsUpper O (IsPositive d) x = subst (IsUpper O (IsPositive d)) (sym first) proper.convex.once.2.1 in
         let all : AllNonzero (x ∷ l) = subst AllNonzero e (rotated_all (λ v. ¬ (v ≡ no_vector d)) sides begun rotated nonzero) in
         let chain : Chain O ring order (Goes O ring order) (x ∷ l) = chain_of O ring order (Goes O ring order) (x ∷ l) (λ a u v b k. goes_begun a b u v (e ∙ k)) in
         subst Convex (sym e) (rising_convex O ring order x l upper all.1 chain (ap (total O ring order) (sym e) ∙ total_rotated sides begun rotated ∙ closed))
@@ -214,6 +220,6 @@ module _ (d : ℕ) (field : IsFieldNumber d) where
       left = never_right sides proper_convex;
       some = elim (some_or_none sides) [
         | inl some ↦ some
-        | inr none ↦ absurd (proper.not_flat (λ i inside. zero_from (corner d sides i) (nn_of O ring order _ (proper.convex.never_right i inside)) (none i inside)))
+        | inr none ↦ absurd (proper.not_flat (λ i inside. zero_from (corner d sides i) (not_negative (proper.convex.never_right i inside)) (none i inside)))
       ];
     }

@@ -18,7 +18,9 @@ use Rattle.ear_cut.specs.Steps.{chord_corner}
 use Rattle.ear_cut.proofs.Rotations.{IsRotated, rotated_back, rotated-length, rotated_at, IsReplacedAt, replaced_at}
 use Rattle.ear_cut.proofs.Replaced.{each_at}
 use Rattle.ear_cut.proofs.Corners.{positive_rotated, positive_first}
-use Rattle.ear_cut.proofs.Turning.{NN, total_merged, det_closed_second, det_closed_third, convex_merged}
+use Rattle.rings.proofs.Turning.{det_closed_second, det_closed_third}
+use Rattle.ear_cut.proofs.Sorted.{NN}
+use Rattle.ear_cut.proofs.ConvexPosition.{total_merged, convex_merged}
 use Rattle.ear_cut.proofs.Parallel.{Parallel, parallel_turned, parallel_trans, parallel_part, all_parallel}
 use Rattle.ear_cut.proofs.Convex.{ring, order, Convex, total_is, never_right, convex_of, positive_or_not, positive_from, zero_from, positive_nonzero, some_or_none, first_below, cuttable_rotated}
 
@@ -306,6 +308,6 @@ module _ (d : ℕ) (field : IsFieldNumber d) where
 
       by_place : (i : ℕ) → cuttable.some.0 ≡ i → cuttable.some.0 < 3 → IsPositive d (det O u v)
       by_place zero k _ = at_place 0 k
-      by_place (suc zero) k _ = subst (IsPositive d) (det_closed_second O L Q u v w e) (at_place 1 k)
-      by_place (suc (suc zero)) k _ = subst (IsPositive d) (det_closed_third O L Q u v w e) (at_place 2 k)
+      by_place (suc zero) k _ = subst (IsPositive d) (det_closed_second O L u v w e) (at_place 1 k)
+      by_place (suc (suc zero)) k _ = subst (IsPositive d) (det_closed_third O L u v w e) (at_place 2 k)
       by_place (suc (suc (suc i))) k inside = absurd (omega (arith, k, inside))

@@ -86,13 +86,16 @@ some_list : {X : Type 0} (F : ℕ → X → Type 0) (none : X) (n : ℕ) → ((h
 some_list F none zero some = ([], refl, λ h below. absurd (omega (arith, below)))
 some_list F none (suc n) some =
     let rest = some_list F none n (λ h below. some h (omega arith)) in
-    let last = some n (omega arith) in
-    (rest.0 ++ last.0 ∷ [], omega (arith, length-append rest.0 (last.0 ∷ []), rest.1), λ h below. elim (cases_lt h n) [
-      | inl before ↦ subst (F h) (sym (get_or_append_left rest.0 (last.0 ∷ []) none h (omega (arith, rest.1)))) (rest.2 h before)
-      | inr after ↦
-          let here : n ≡ h = omega arith in
-          subst (F h) (sym (get_or_push rest.0 last.0 none h (rest.1 ∙ here))) (subst (λ k. F k last.0) here last.1)
-    ])
+    let last = some n (omega arith) in (
+      rest.0 ++ last.0 ∷ [],
+      omega (arith, length-append rest.0 (last.0 ∷ []), rest.1),
+      λ h below. elim (cases_lt h n) [
+        | inl before ↦ subst (F h) (sym (get_or_append_left rest.0 (last.0 ∷ []) none h (omega (arith, rest.1)))) (rest.2 h before)
+        | inr after ↦
+            let here : n ≡ h = omega arith in
+            subst (F h) (sym (get_or_push rest.0 last.0 none h (rest.1 ∙ here))) (subst (λ k. F k last.0) here last.1)
+      ],
+    )
 
 -- the half-edge of side h: its vector, and its twin's number
 record IsHalfOf (g : Gluing) (sides : List Side) (h : ℕ) (half : Half) : Type 0 where

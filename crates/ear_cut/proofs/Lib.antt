@@ -1,5 +1,6 @@
 pub mod Splits
-pub mod Turning
+pub mod Sorted
+pub mod ConvexPosition
 pub mod Rotations
 pub mod Replaced
 pub mod Corners

@@ -1,11 +1,8 @@
 -- Glued polygons are cut into one list of half-edges only.
 use Rattle.std.proofs.Common.{◌≡◌, ℕ, ◌<◌, List, length, refl, ap, sym, ◌∙◌, subst}
-use Rattle.std.proofs.lemmas.List.{ext_get_or}
-use Rattle.plane.specs.Vectors.{Vector, vector}
-use Rattle.plane.specs.declared.vec2.Vec2.{Vec2}
-use Rattle.quad_field.specs.declared.quad.Quad.{Quad}
 use Rattle.tri_core.specs.declared.half.Half.{Half}
-use Rattle.tri_core.specs.HalfEdges.{no_half, half_at, twin_at}
+use Rattle.tri_core.specs.HalfEdges.{twin_at}
+use Rattle.tri_core.proofs.CallerLemmas.{same_halves}
 use Rattle.gluing.specs.Gluings.{Gluing, IsGluing}
 use Rattle.ear_cut.specs.Cuttings.{at, sides_of, vectors_of, ArePartners, IsEarCutting}
 use Rattle.ear_cut.specs.Steps.{source_at}
@@ -13,16 +10,8 @@ use Rattle.ear_cut.proofs.Unique.{same_pieces}
 use Rattle.ear_cut.proofs.Partners.{one_partner}
 use Rattle.ear_cut.proofs.Triangulated.{long, vector_is, once, twin_below, twin_partner}
 
-pub same_vector : (v w : Vec2) → vector v ≡ vector w → v ≡ w
-same_vector v w e = ap (λ (u : Vector Quad). let r : Vec2 = record { s = u.0; t = u.1 } in r) e
-
-same_half : (a b : Half) → a.vec ≡ b.vec → a.twin ≡ b.twin → a ≡ b
-same_half a b e f =
-    let build = λ (v : Vec2) (n : ℕ). let r : Half = record { vec = v; twin = n } in r in
-    ap (λ v. build v a.twin) e ∙ ap (build b.vec) f
-
-same_halves : (g : Gluing) → IsGluing g → (a b : List Half) (p : IsEarCutting g a) (q : IsEarCutting g b) → p.pieces ≡ q.pieces → a ≡ b
-same_halves g valid a b p q same =
+one_list : (g : Gluing) → IsGluing g → (a b : List Half) (p : IsEarCutting g a) (q : IsEarCutting g b) → p.pieces ≡ q.pieces → a ≡ b
+one_list g valid a b p q same =
     let r : IsEarCutting g b = record {
       pieces = p.pieces;
       cut = p.cut;
@@ -31,12 +20,12 @@ same_halves g valid a b p q same =
     } in
     let sides = sides_of p.pieces in
     let lengths : length a ≡ length b = long g valid a p ∙ sym (long g valid b r) in
-    ext_get_or no_half a b lengths (λ h below.
+    same_halves a b lengths
+    (λ h below. vector_is g valid a p h below ∙ sym (vector_is g valid b r h (subst (λ n. h < n) lengths below)))
+    (λ h below.
     let here : h < length sides = subst (λ n. h < n) (long g valid a p) below in
-    let vecs = same_vector (half_at a h).vec (half_at b h).vec (vector_is g valid a p h below ∙ sym (vector_is g valid b r h (subst (λ n. h < n) lengths below))) in
     let partner = one_partner g.glues (source_at sides h) (source_at sides (twin_at a h)) (source_at sides (twin_at b h)) valid.once (twin_partner g valid a p h here) (twin_partner g valid b r h here) in
-    let twins = once g valid a p (source_at sides (twin_at a h)) (twin_at a h) (twin_at b h) (twin_below g valid a p h here) (twin_below g valid b r h here) refl (sym partner) in
-    same_half (half_at a h) (half_at b h) vecs twins)
+    once g valid a p (source_at sides (twin_at a h)) (twin_at a h) (twin_at b h) (twin_below g valid a p h here) (twin_below g valid b r h here) refl (sym partner))
 
 pub one_cutting : (g : Gluing) → IsGluing g → (a b : List Half) → IsEarCutting g a → IsEarCutting g b → a ≡ b
-one_cutting g valid a b p q = same_halves g valid a b p q (same_pieces g.field 0 0 g.polygons p.pieces q.pieces p.cut q.cut)
+one_cutting g valid a b p q = one_list g valid a b p q (same_pieces g.field 0 0 g.polygons p.pieces q.pieces p.cut q.cut)

@@ -9,7 +9,10 @@ use Rattle.rings.specs.Forms.{det}
 use Rattle.rings.proofs.Solver.{identity}
 use Rattle.std.proofs.lemmas.List.{append_assoc}
 use Rattle.rings.proofs.Ordered.{no_divisors, product_negative, product_not_negative}
-use Rattle.ear_cut.proofs.Turning.{NN, not_negative, both, none, total, total_both, InConvexPosition}
+use Rattle.rings.specs.Vectors.{Vector, zero_vector, vector_sum}
+use Rattle.rings.proofs.Signs.{never_below}
+use Rattle.ear_cut.proofs.Sorted.{NN, total, total_both}
+use Rattle.ear_cut.proofs.ConvexPosition.{InConvexPosition}
 open expr use {add as ◌+'◌, sub as ◌-'◌, mul as ◌*'◌, neg as neg', int as int'}
 
 infixl 60 ◌+'◌
@@ -22,20 +25,16 @@ module _ {R : Type 0} (O : Ops R) (L : IsRing O) {P : R → Type 0} (Q : IsOrder
   infixl 60 ◌⊖◌
   infixl 70 ◌⊗◌
   -- their determinant is zero
-  abbrev pub Parallel : R × R → R × R → Type 0
+  abbrev pub Parallel : Vector R → Vector R → Type 0
   Parallel u v = det O u v ≡ num_of (pos 0)
 
-  -- the zero vector
-  abbrev Nothing : R × R
-  Nothing = (num_of (pos 0), num_of (pos 0))
-
-  pub parallel_turned : (u v : R × R) → Parallel u v → Parallel v u
+  pub parallel_turned : (u v : Vector R) → Parallel u v → Parallel v u
   parallel_turned u v h =
       identity O L (u.0 ∷ u.1 ∷ v.0 ∷ v.1 ∷ []) (det expr (var 2, var 3) (var 0, var 1)) (neg' (det expr (var 0, var 1) (var 2, var 3))) tt
       ∙ ap minus h ∙ identity O L [] (neg' (int' (pos 0))) (int' (pos 0)) tt
 
   -- two vectors that are parallel to a nonzero one are parallel
-  pub parallel_trans : (a b c : R × R) → ¬ (b ≡ Nothing) → Parallel a b → Parallel b c → Parallel a c
+  pub parallel_trans : (a b c : Vector R) → ¬ (b ≡ zero_vector O) → Parallel a b → Parallel b c → Parallel a c
   parallel_trans a b c nonzero h k = go (no_divisors O L Q (det O a c) b.0 first) (no_divisors O L Q (det O a c) b.1 second)
     where
       nil : (x y : R) → num_of (pos 0) ⊗ x ⊕ num_of (pos 0) ⊗ y ≡ num_of (pos 0)
@@ -60,25 +59,19 @@ module _ {R : Type 0} (O : Ops R) (L : IsRing O) {P : R → Type 0} (Q : IsOrder
       go (inr e) (inl g) = g
       go (inr e) (inr g) = absurd (nonzero (λ i. (e i, g i)))
 
-  pub parallel_self : (a : R × R) → Parallel a a
+  pub parallel_self : (a : Vector R) → Parallel a a
   parallel_self a = identity O L (a.0 ∷ a.1 ∷ []) (det expr (var 0, var 1) (var 0, var 1)) (int' (pos 0)) tt
 
   -- u is parallel to v where one of them is to their sum
-  pub parallel_part : (u v w : R × R) → ¬ (w ≡ Nothing) → Parallel w (u.0 ⊕ v.0, u.1 ⊕ v.1) → Parallel w v → Parallel u v
+  pub parallel_part : (u v w : Vector R) → ¬ (w ≡ zero_vector O) → Parallel w (u.0 ⊕ v.0, u.1 ⊕ v.1) → Parallel w v → Parallel u v
   parallel_part u v w nonzero h k =
       let both : Parallel (u.0 ⊕ v.0, u.1 ⊕ v.1) v = parallel_trans (u.0 ⊕ v.0, u.1 ⊕ v.1) w v nonzero (parallel_turned w (u.0 ⊕ v.0, u.1 ⊕ v.1) h) k in
       identity O L (u.0 ∷ u.1 ∷ v.0 ∷ v.1 ∷ []) (det expr (var 0, var 1) (var 2, var 3)) (det expr (var 0 +' var 2, var 1 +' var 3) (var 2, var 3)) tt
       ∙ both
 
-  pub parallel_other_part : (u v w : R × R) → ¬ (w ≡ Nothing) → Parallel w (u.0 ⊕ v.0, u.1 ⊕ v.1) → Parallel w u → Parallel u v
-  parallel_other_part u v w nonzero h k =
-      let both : Parallel u (u.0 ⊕ v.0, u.1 ⊕ v.1) = parallel_trans u w (u.0 ⊕ v.0, u.1 ⊕ v.1) nonzero (parallel_turned w u k) h in
-      identity O L (u.0 ∷ u.1 ∷ v.0 ∷ v.1 ∷ []) (det expr (var 0, var 1) (var 2, var 3)) (det expr (var 0, var 1) (var 0 +' var 2, var 1 +' var 3)) tt
-      ∙ both
-
   -- ---- a list in convex position that begins with two parallel vectors
   -- z is parallel to y where the sums of what stands before z, with z and without it, are
-  parallel_next : (y z : R × R) (p : List (R × R)) → Parallel y (total O L Q p) → Parallel y (total O L Q (p ++ (z ∷ []))) → Parallel y z
+  parallel_next : (y z : Vector R) (p : List (Vector R)) → Parallel y (total O L Q p) → Parallel y (total O L Q (p ++ (z ∷ []))) → Parallel y z
   parallel_next y z p h k =
       let s = total O L Q p in
       identity O L (y.0 ∷ y.1 ∷ z.0 ∷ z.1 ∷ s.0 ∷ s.1 ∷ [])
@@ -89,10 +82,10 @@ module _ {R : Type 0} (O : Ops R) (L : IsRing O) {P : R → Type 0} (Q : IsOrder
       ∙ identity O L [] (int' (pos 0) -' int' (pos 0)) (int' (pos 0)) tt
 
   -- w and y are parallel, v turns to the right into w and not into y: then y and z are parallel where none of w and y turns to the right into z
-  parallel_third : (v w y z : R × R) → NN O L Q (det O v y) → P (minus (det O v w)) → Parallel w y → NN O L Q (det O w z) → NN O L Q (det O y z) → Parallel y z
+  parallel_third : (v w y z : Vector R) → NN O L Q (det O v y) → P (minus (det O v w)) → Parallel w y → NN O L Q (det O w z) → NN O L Q (det O y z) → Parallel y z
   parallel_third v w y z h n flat k (inl e) = e
   parallel_third v w y z h n flat k (inr p) =
-      not_negative O L Q (det O v y ⊗ det O w z) (product_not_negative O L Q (det O v y) (det O w z) h k)
+      never_below O L Q (det O v y ⊗ det O w z) (product_not_negative O L Q (det O v y) (det O w z) h k)
       (subst (λ t. P (minus t)) same (product_negative O L Q (det O v w) (det O y z) n p))
     where
       same : det O v w ⊗ det O y z ≡ det O v y ⊗ det O w z
@@ -109,23 +102,29 @@ module _ {R : Type 0} (O : Ops R) (L : IsRing O) {P : R → Type 0} (Q : IsOrder
   each_split F (z ∷ l) f = (f [] z l refl, each_split F l (λ p x q e. f (z ∷ p) x q (ap (λ s. z ∷ s) e)))
 
   -- so all that follows is parallel to y
-  pub all_parallel : (v w y : R × R) (rest : List (R × R)) → NN O L Q (det O v y) → P (minus (det O v w)) → Parallel w y → InConvexPosition O L Q (w ∷ y ∷ rest) → AllByRecursion (Parallel y) (w ∷ y ∷ rest)
-  all_parallel v w y rest h n flat convex = (parallel_turned w y flat, (parallel_self y, each_split (Parallel y) rest (λ p z q e.
-      parallel_next y z p (stretch p (z ∷ q) e) (stretch (p ++ (z ∷ [])) q (e ∙ sym (append_assoc p (z ∷ []) q))))))
+  pub all_parallel : (v w y : Vector R) (rest : List (Vector R)) → NN O L Q (det O v y) → P (minus (det O v w)) → Parallel w y → InConvexPosition O L Q (w ∷ y ∷ rest) → AllByRecursion (Parallel y) (w ∷ y ∷ rest)
+  all_parallel v w y rest h n flat convex = (
+    parallel_turned w y flat,
+    (
+      parallel_self y,
+      each_split (Parallel y) rest (λ p z q e.
+          parallel_next y z p (stretch p (z ∷ q) e) (stretch (p ++ (z ∷ [])) q (e ∙ sym (append_assoc p (z ∷ []) q)))),
+    ),
+  )
     where
-      from_first : (s : R × R) → det O (both O L Q w (none O L Q)) (both O L Q y s) ≡ det O w s
+      from_first : (s : Vector R) → det O (vector_sum O w (zero_vector O)) (vector_sum O y s) ≡ det O w s
       from_first s =
           identity O L (w.0 ∷ w.1 ∷ y.0 ∷ y.1 ∷ s.0 ∷ s.1 ∷ [])
           (det expr (var 0 +' int' (pos 0), var 1 +' int' (pos 0)) (var 2 +' var 4, var 3 +' var 5))
           (det expr (var 0, var 1) (var 2, var 3) +' det expr (var 0, var 1) (var 4, var 5)) tt
           ∙ ap (λ t. t ⊕ det O w s) flat ∙ identity O L (det O w s ∷ []) (int' (pos 0) +' var 0) (var 0) tt
 
-      from_second : (s : R × R) → det O (both O L Q y (none O L Q)) s ≡ det O y s
+      from_second : (s : Vector R) → det O (vector_sum O y (zero_vector O)) s ≡ det O y s
       from_second s =
           identity O L (y.0 ∷ y.1 ∷ s.0 ∷ s.1 ∷ []) (det expr (var 0 +' int' (pos 0), var 1 +' int' (pos 0)) (var 2, var 3)) (det expr (var 0, var 1) (var 2, var 3)) tt
 
       -- the sum of what stands first behind y is parallel to y
-      stretch : (p q : List (R × R)) → rest ≡ p ++ q → Parallel y (total O L Q p)
+      stretch : (p q : List (Vector R)) → rest ≡ p ++ q → Parallel y (total O L Q p)
       stretch p q e =
           parallel_third v w y (total O L Q p) h n flat
           (subst (NN O L Q) (from_first (total O L Q p)) (convex [] (w ∷ []) (y ∷ p) q (ap (λ s. w ∷ y ∷ s) e)))

@@ -40,12 +40,6 @@ few_slots g valid triangles same =
     omega (arith, sides_are g.field g.polygons (gluing_ready g valid), triangles_are g.field g.polygons (gluing_ready g valid), valid.few_triangles)
 
 -- ---- the first slots
-pub no_slots : (triangles slot : ℕ) → slot ≡ 2 * triangles → AreFirstSlots triangles [] (slot ∷ [])
-no_slots triangles slot same = record {
-  count = omega arith;
-  each = λ p below. let first : p ≡ 0 = omega arith in ap (λ n. get_or (slot ∷ []) n 0) first ∙ omega (arith, same, ap (λ n. side_count (take n [])) first);
-}
-
 pub more_slots : (triangles : ℕ) (polygons : List (List Vec2)) (sides : List Vec2) (first : List ℕ) (slot : ℕ) → AreFirstSlots triangles polygons first → slot ≡ 2 * triangles + side_count (polygons ++ sides ∷ [])
     → AreFirstSlots triangles (polygons ++ sides ∷ []) (first ++ slot ∷ [])
 more_slots triangles polygons sides first slot so_far same = record {

@@ -1,5 +1,5 @@
 -- Where the parts of a list fall that is split in two ways.
-use Rattle.std.proofs.Common.{◌≡◌, List, [], ◌∷◌, ◌++◌, length, sym, ap, ◌∙◌, refl, arith}
+use Rattle.std.proofs.Common.{◌≡◌, List, [], ◌∷◌, ◌++◌, sym, ap, ◌∙◌, refl}
 use Rattle.std.specs.Prelude.{◌⊎◌}
 use Rattle.std.specs.List.{AllByRecursion}
 use mathlib.Core.Logic.{inl, inr}
@@ -22,10 +22,6 @@ module _ {X : Type 0} where
   -- and go on equally
   pub same_rest : (x y : X) (xs ys : List X) → x ∷ xs ≡ y ∷ ys → xs ≡ ys
   same_rest x y xs ys e = ap without_first e
-
-  -- a list that isn't empty isn't the empty one
-  pub not_empty : {Y : Type 0} (x : X) (xs : List X) → x ∷ xs ≡ [] → Y
-  not_empty x xs e = absurd (omega (arith, ap length e))
 
   -- the first part of one split reaches beyond the first part of the other
   abbrev pub Beyond : List X → List X → List X → List X → Type 0
@@ -60,11 +56,6 @@ module _ {X : Type 0} where
         | inr h ↦ inr (h.0, ap (λ z. z ∷ p) (same_first x y (p ++ (w ∷ q)) (r ++ s) e) ∙ ap (λ z. y ∷ z) h.1, h.2)
       ]
 
-  -- a list that isn't empty has a last element
-  pub last_of : (x : X) (xs : List X) → (m : List X) × (z : X) × (x ∷ xs ≡ m ++ (z ∷ []))
-  last_of x [] = ([], x, refl)
-  last_of x (y ∷ ys) = let h = last_of y ys in (x ∷ h.0, h.1, ap (λ z. x ∷ z) h.2)
-
   -- ---- a fact of all elements, and the parts of a list
   module _ (F : X → Type 0) where
     pub all_both : (xs ys : List X) → AllByRecursion F xs → AllByRecursion F ys → AllByRecursion F (xs ++ ys)
@@ -78,7 +69,3 @@ module _ {X : Type 0} where
     pub all_second : (xs ys : List X) → AllByRecursion F (xs ++ ys) → AllByRecursion F ys
     all_second [] ys h = h
     all_second (x ∷ xs) ys h = all_second xs ys h.1
-
-  pub all_map : (F G : X → Type 0) → ((x : X) → F x → G x) → (xs : List X) → AllByRecursion F xs → AllByRecursion G xs
-  all_map F G f [] h = tt
-  all_map F G f (x ∷ xs) h = (f x h.0, all_map F G f xs h.1)

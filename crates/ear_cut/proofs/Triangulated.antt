@@ -6,22 +6,22 @@ use Rattle.std.proofs.lemmas.List.{length-map, get_or-map, get_or_default}
 use Rattle.rings.specs.Ring.{var, expr}
 use Rattle.rings.proofs.Solver.{identity}
 use Rattle.rings.proofs.Ordered.{not_both_signs}
+use Rattle.rings.proofs.Turning.{opposite_twice}
 use Rattle.quad_field.specs.declared.quad.Quad.{Quad}
 use Rattle.quad_field.specs.Quads.{quad_ops, IsPositive}
 use Rattle.quad_field.specs.FieldNumber.{IsFieldNumber}
-use Rattle.quad_field.proofs.CallerLemmas.{quad_ring, quad_order}
+use Rattle.quad_field.proofs.CallerLemmas.{quad_ring, order_of}
 use Rattle.plane.specs.Vectors.{Vector, vector, vector_sum, opposite_vector, det}
 use Rattle.surface_text.specs.declared.file.Glue.{Glue}
 use Rattle.surface_text.specs.Limits.{IsThere, NamesSides}
 use Rattle.tri_core.specs.declared.half.Half.{Half}
-use Rattle.tri_core.specs.HalfEdges.{no_half, half_at, vector_at, twin_at}
+use Rattle.tri_core.specs.HalfEdges.{no_half, vector_at, twin_at}
 use Rattle.tri_core.specs.Triangulation.{HasTriangles, IsTriangle, IsClosed, TurnsInto, IsPaired, IsClosedUnderTwins, IsJoined, IsTriangulation}
-use Rattle.tri_core.specs.Refusals.{HasWide}
+use Rattle.tri_core.proofs.CallerLemmas.{IsTriple, triple_turned, opposite_does_not_turn, from_opposite}
 use Rattle.gluing.specs.Polygons.{no_vector, polygon_at, side_at}
 use Rattle.gluing.specs.Gluings.{Gluing, IsGluing, no_glue, glue_at, IsClosedUnderGlues, AreTwins}
 use Rattle.ear_cut.specs.Cuttings.{Side, Piece, Origin, at, no_one, sides_of, ArePartners, IsEarCutting}
-use Rattle.ear_cut.specs.Steps.{IsSmall, source_at}
-use Rattle.ear_cut.proofs.Widths.{sums_fit, det_fits}
+use Rattle.ear_cut.specs.Steps.{source_at}
 use Rattle.ear_cut.proofs.Replaced.{each_at, each_from}
 use Rattle.ear_cut.proofs.Origins.{count, count_at, count_some, count_one, most_one, as_many, some_outer}
 use Rattle.ear_cut.proofs.Values.{Fits, value_of, no_piece, each_value}
@@ -46,33 +46,15 @@ sum_turned d u v =
     let one = λ (x y : Quad). identity (quad_ops d) (quad_ring d) (x ∷ y ∷ []) (expr.add (var 0) (var 1)) (expr.add (var 1) (var 0)) tt in
     ap₂ (λ (x y : Quad). (x, y)) (one u.0 v.0) (one u.1 v.1)
 
-opposite_twice : (d : ℕ) (u : Vector Quad) → u ≡ opposite_vector (quad_ops d) (opposite_vector (quad_ops d) u)
-opposite_twice d u =
-    let one = λ (x : Quad). identity (quad_ops d) (quad_ring d) (x ∷ []) (var 0) (expr.neg (expr.neg (var 0))) tt in
-    ap₂ (λ (x y : Quad). (x, y)) (one u.0) (one u.1)
-
 -- no side of a triangle is opposite to its first
-not_first : (d : ℕ) → IsFieldNumber d → (u v : Vector Quad) → IsPositive d (det (quad_ops d) u v) → ¬ (u ≡ opposite_vector (quad_ops d) u)
-not_first d field u v turns e =
+not_first : (d : ℕ) → IsFieldNumber d → (u v w : Vector Quad) → IsTriple d u v w → ¬ (u ≡ opposite_vector (quad_ops d) u)
+not_first d field u v w triple e =
     let O = quad_ops d in
     let back = identity O (quad_ring d) (u.0 ∷ u.1 ∷ v.0 ∷ v.1 ∷ []) (det expr (expr.neg (var 0), expr.neg (var 1)) (var 2, var 3)) (expr.neg (det expr (var 0, var 1) (var 2, var 3))) tt in
-    not_both_signs O (quad_ring d) (quad_order d field.2 field.0) (det O u v) turns (subst (IsPositive d) (ap (λ w. det O w v) e ∙ back) turns)
+    not_both_signs O (quad_ring d) (order_of d field) (det O u v) triple.turns (subst (IsPositive d) (ap (λ w. det O w v) e ∙ back) triple.turns)
 
-not_second : (d : ℕ) → IsFieldNumber d → (u v : Vector Quad) → IsPositive d (det (quad_ops d) u v) → ¬ (v ≡ opposite_vector (quad_ops d) u)
-not_second d field u v turns e =
-    let O = quad_ops d in
-    let none = identity O (quad_ring d) (u.0 ∷ u.1 ∷ []) (det expr (var 0, var 1) (expr.neg (var 0), expr.neg (var 1))) (expr.int (pos 0)) tt in
-    (quad_order d field.2 field.0).zero_is_not (subst (IsPositive d) (ap (det O u) e ∙ none) turns)
-
-not_third : (d : ℕ) → IsFieldNumber d → (u v w : Vector Quad) → IsPositive d (det (quad_ops d) u v) → vector_sum (quad_ops d) (vector_sum (quad_ops d) u v) w ≡ no_vector d → ¬ (w ≡ opposite_vector (quad_ops d) u)
-not_third d field u v w turns closed e =
-    let O = quad_ops d in
-    let x = expr.add (expr.add (var 0) (var 2)) (expr.neg (var 0)) in
-    let y = expr.add (expr.add (var 1) (var 3)) (expr.neg (var 1)) in
-    let same = identity O (quad_ring d) (u.0 ∷ u.1 ∷ v.0 ∷ v.1 ∷ []) (det expr (var 0, var 1) (var 2, var 3)) (det expr (var 0, var 1) (x, y)) tt in
-    let none = identity O (quad_ring d) (u.0 ∷ u.1 ∷ []) (det expr (var 0, var 1) (expr.int (pos 0), expr.int (pos 0))) (expr.int (pos 0)) tt in
-    (quad_order d field.2 field.0).zero_is_not
-    (subst (IsPositive d) (same ∙ ap (λ z. det O u (vector_sum O (vector_sum O u v) z)) (sym e) ∙ ap (det O u) closed ∙ none) turns)
+not_third : (d : ℕ) (u v w : Vector Quad) → IsTriple d u v w → ¬ (w ≡ opposite_vector (quad_ops d) u)
+not_third d u v w triple e = opposite_does_not_turn d w u v (from_opposite d u w e) (triple_turned d v w u (triple_turned d u v w triple))
 
 -- ---- places
 pub sides_length : (pieces : List Piece) → length (sides_of pieces) ≡ 3 * length pieces
@@ -116,7 +98,7 @@ opposite_value g valid pieces (Origin.chord t) (Origin.chord u) pair = absurd pa
 opposite_value g valid pieces (Origin.chord t) (Origin.back u) pair = ap (λ n. value_of g.field g.polygons pieces (Origin.back n)) (sym pair)
 opposite_value g valid pieces (Origin.back t) (Origin.outer q f) pair = absurd pair
 opposite_value g valid pieces (Origin.back t) (Origin.chord u) pair =
-    ap (λ n. value_of g.field g.polygons pieces (Origin.chord n)) (sym pair) ∙ opposite_twice g.field (value_of g.field g.polygons pieces (Origin.chord t))
+    ap (λ n. value_of g.field g.polygons pieces (Origin.chord n)) (sym pair) ∙ sym (opposite_twice (quad_ops g.field) (quad_ring g.field) (value_of g.field g.polygons pieces (Origin.chord t)))
 opposite_value g valid pieces (Origin.back t) (Origin.back u) pair = absurd pair
 
 same_bool : (a b : Bool) → (a ≡ true → b ≡ true) → (b ≡ true → a ≡ true) → a ≡ b
@@ -334,13 +316,13 @@ module _ (g : Gluing) (valid : IsGluing g) (halves : List Half) (cutting : IsEar
       let w = (get_or pieces 0 none).third.vec in
       let back : vector_at halves (twin_at halves 0) ≡ opposite_vector (quad_ops d) u = pair.2 ∙ ap (opposite_vector (quad_ops d)) vs.first in
       elim (cases_eq (twin_at halves 0) 0) [
-        | inl is ↦ not_first d valid.field u v is_good.turns (sym vs.first ∙ ap (vector_at halves) (sym is) ∙ back)
+        | inl is ↦ not_first d valid.field u v w is_good (sym vs.first ∙ ap (vector_at halves) (sym is) ∙ back)
         | inr not_zero ↦
             elim (cases_eq (twin_at halves 0) 1) [
-              | inl is ↦ not_second d valid.field u v is_good.turns (sym vs.second ∙ ap (vector_at halves) (sym is) ∙ back)
+              | inl is ↦ opposite_does_not_turn d u v w (sym vs.second ∙ ap (vector_at halves) (sym is) ∙ back) is_good
               | inr not_one ↦
                   let is : twin_at halves 0 ≡ 2 = omega (arith, pair.0) in
-                  not_third d valid.field u v w is_good.turns is_good.closed (sym vs.third ∙ ap (vector_at halves) (sym is) ∙ back)
+                  not_third d u v w is_good (sym vs.third ∙ ap (vector_at halves) (sym is) ∙ back)
             ]
       ]
 
@@ -354,17 +336,3 @@ module _ (g : Gluing) (valid : IsGluing g) (halves : List Half) (cutting : IsEar
 
   pub triangulation : IsTriangulation g.field halves
   triangulation = record { count = count_is; closed = closed; turns = turns; paired = paired; joined = joined }
-
-  -- ---- width
-  pub not_wide : ¬ (HasWide g.field halves)
-  not_wide (t, triangle, wide) =
-      let below = triangle_below t triangle in
-      let vs = vectors_at t below in
-      let is_good = good t below in
-      let first : IsSmall (vector_at halves (3 * t)) = subst IsSmall (sym vs.first) is_good.small_first in
-      let second : IsSmall (vector_at halves (3 * t + 1)) = subst IsSmall (sym vs.second) is_good.small_second in
-      let third : IsSmall (vector_at halves (3 * t + 2)) = subst IsSmall (sym vs.third) is_good.small_third in
-      wide (
-        sums_fit d (half_at halves (3 * t)).vec (half_at halves (3 * t + 1)).vec (half_at halves (3 * t + 2)).vec first second third,
-        det_fits d valid.field.1 (half_at halves (3 * t)).vec (half_at halves (3 * t + 1)).vec first second,
-      )

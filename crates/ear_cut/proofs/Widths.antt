@@ -95,15 +95,6 @@ sum_fits d u v p q = (
   (tt, tt, parts_fit _ (omega (arith, abs_sum u.t.a v.t.a), omega (arith, abs_sum u.t.b v.t.b))),
 )
 
--- the sum of three small vectors
-pub sums_fit : (d : ℕ) (u v w : Vec2) → IsSmall (vector u) → IsSmall (vector v) → IsSmall (vector w)
-    → VectorFits d (vector_sum term_ops (vector_sum term_ops (vector_term u) (vector_term v)) (vector_term w))
-sums_fit d u v w p q r =
-    let two = sum_fits d u v p q in (
-      (two.0, tt, parts_fit _ (omega (arith, abs_sum u.s.a v.s.a, abs_sum (u.s.a +ℤ v.s.a) w.s.a), omega (arith, abs_sum u.s.b v.s.b, abs_sum (u.s.b +ℤ v.s.b) w.s.b))),
-      (two.1, tt, parts_fit _ (omega (arith, abs_sum u.t.a v.t.a, abs_sum (u.t.a +ℤ v.t.a) w.t.a), omega (arith, abs_sum u.t.b v.t.b, abs_sum (u.t.b +ℤ v.t.b) w.t.b))),
-    )
-
 -- sizes of sums and opposites
 pub size_sum : (d : ℕ) (u v : Vector Quad) → size_of (vector_sum (quad_ops d) u v) ≤ size_of u + size_of v
 size_sum d u v = omega (arith, abs_sum u.0.a v.0.a, abs_sum u.0.b v.0.b, abs_sum u.1.a v.1.a, abs_sum u.1.b v.1.b)

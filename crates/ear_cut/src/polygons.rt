@@ -76,11 +76,7 @@ fn cut_ear(
 }
 
 /// Cuts a polygon, and appends the sides of its triangles.
-fn cut_polygon(
-    f: &Field,
-    polygon: Vec<Edge>,
-    edges: &mut Vec<Edge>,
-) -> Result<(), AllocError>
+fn cut_polygon(f: &Field, polygon: Vec<Edge>, edges: &mut Vec<Edge>) -> Result<(), AllocError>
     requires field { IsFieldNumber f.now }
     requires long { 3 ≤ vec_len polygon }
     requires small { AreSmall (vectors_of (seen polygon.items)) }

@@ -19,7 +19,7 @@ is_left-requires-clause-second c =
     let n = length c.args.sides.now in
     let after : c.next_place-after.result < n = subst (λ k. k < n) (sym c.next_place-after.ensures) (place_after c.args.i n c.requires.place) in
     let behind : c.next_place-behind.result < n = subst (λ k. k < n) (sym c.next_place-behind.ensures) (place_after c.next_place-after.result n after) in
-    seen_small c.args.sides.now c.next_place-behind.result _ behind c.requires.small
+    seen_small c.args.sides.now _ _ (omega arith) c.requires.small
 
 pub returns : goal.returns
 returns c =
