@@ -1,5 +1,5 @@
 //! Polygons glued side to side: whether the polygons of a surface file make a surface.
-//! A file that makes none is refused with its first line that says so, and the least cause there.
+//! A file that makes none is refused for the first of the conditions on it that fails, in the line where it does.
 //! Whoever holds a `Glued` knows by its type that its polygons are convex, paired and connected.
 #![tactic(auto)]
 

@@ -17,8 +17,8 @@ use Rattle.surface_text.specs.declared.lines.Kind.TheVariants as kinds
 use Rattle.surface_text.specs.Spelling.{Line, content, lines_before_end}
 use Rattle.surface_text.specs.Spelling.Line.{flat, field, base, polygon, glue}
 use Rattle.surface_text.specs.Limits.{NamesSides}
-use Rattle.surface_text.specs.Causes.{FrontOf, words_behind, words_after, IsWanted, IsNextLine, IsPrinted, base_lines, polygons_in}
-use Rattle.surface_text.specs.Lines.{IsSoFar, IsLineRefused}
+use Rattle.surface_text.specs.Causes.{FrontOf, words_behind, words_after, IsWanted, IsPrinted, base_lines, polygons_in}
+use Rattle.surface_text.specs.Lines.{IsSoFar, IsLineRefused, IsNextLine}
 use Rattle.surface_text.specs.Faults.{word_of_kind, words_by, IsOpen, IsBodyRefused, IsPolygonRefused}
 use Rattle.surface_text.proofs.Bodies.{Standing, polygon_bad}
 use Rattle.surface_text.proofs.Least.{least_next}
@@ -72,7 +72,7 @@ glues_none g gs all =
     omega arith
 
 -- the words that may stand behind the lines of these parts
-parts_words : (d : ℕ) (bs : List Point) (ps : List (List Vec2)) (gs : List Glue) (bare glueless : Bool) → Tells bare ps → Tells glueless gs
+pub parts_words : (d : ℕ) (bs : List Point) (ps : List (List Vec2)) (gs : List Glue) (bare glueless : Bool) → Tells bare ps → Tells glueless gs
     → AllByRecursion (NamesSides ps) gs → words_after (lines_by d bs ps gs) ≡ words_by bare glueless
 parts_words d bs [] [] bare glueless b g all =
     ap (λ (xs : List Line). words_after (flat ∷ field d ∷ xs)) (append-nil (map base bs)) ∙ bases_words (field d) bs refl
@@ -88,21 +88,21 @@ parts_words d bs (p ∷ ps) (h ∷ gs) bare glueless b g all =
     ∙ ap (λ (x : Bool). words_by false x) (sym g) ∙ ap (λ (x : Bool). words_by x glueless) (sym b)
 
 -- where no polygon is, no glue is
-parts_order : (ps : List (List Vec2)) (gs : List Glue) (bare glueless : Bool) → Tells bare ps → Tells glueless gs
+pub parts_order : (ps : List (List Vec2)) (gs : List Glue) (bare glueless : Bool) → Tells bare ps → Tells glueless gs
     → AllByRecursion (NamesSides ps) gs → bare ≡ true → glueless ≡ true
 parts_order [] [] bare glueless b g all is = g
 parts_order [] (h ∷ gs) bare glueless b g all is = absurd (glues_none h gs all)
 parts_order (p ∷ ps) gs bare glueless b g all is = absurd (true≢false (sym is ∙ b))
 
 -- as many base lines as base points
-parts_bases : (bs : List Point) (ps : List (List Vec2)) (gs : List Glue) → base_lines (map base bs ++ (map polygon ps ++ map glue gs)) ≡ length bs
+pub parts_bases : (bs : List Point) (ps : List (List Vec2)) (gs : List Glue) → base_lines (map base bs ++ (map polygon ps ++ map glue gs)) ≡ length bs
 parts_bases [] [] [] = refl
 parts_bases [] [] (g ∷ gs) = parts_bases [] [] gs
 parts_bases [] (p ∷ ps) gs = parts_bases [] ps gs
 parts_bases (b ∷ bs) ps gs = let rest = parts_bases bs ps gs in omega arith
 
 -- the polygons of the polygon lines are those of the file
-parts_polygons : (bs : List Point) (ps : List (List Vec2)) (gs : List Glue) → polygons_in (map base bs ++ (map polygon ps ++ map glue gs)) ≡ ps
+pub parts_polygons : (bs : List Point) (ps : List (List Vec2)) (gs : List Glue) → polygons_in (map base bs ++ (map polygon ps ++ map glue gs)) ≡ ps
 parts_polygons [] [] [] = refl
 parts_polygons [] [] (g ∷ gs) = parts_polygons [] [] gs
 parts_polygons [] (p ∷ ps) gs = ap (λ (xs : List (List Vec2)). p ∷ xs) (parts_polygons [] ps gs)
@@ -174,12 +174,12 @@ pub none_from : {X : Type 0} (xs : List X) (b : Bool) → Tells b xs → b ≡ t
 none_from [] b is yes_one = refl
 none_from (x ∷ xs) b is yes_one = absurd (true≢false (sym yes_one ∙ is))
 
-some_words : (bare glueless : Bool) → words_by bare glueless ≢ []
+pub some_words : (bare glueless : Bool) → words_by bare glueless ≢ []
 some_words true glueless e = absurd (cc)
 some_words false true e = absurd (cc)
 some_words false false e = absurd (cc)
 
-bool_of : {X : Type 0} (xs : List X) → (b : Bool) × Tells b xs
+pub bool_of : {X : Type 0} (xs : List X) → (b : Bool) × Tells b xs
 bool_of [] = (true, refl)
 bool_of (x ∷ xs) = (false, refl)
 

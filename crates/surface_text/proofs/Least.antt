@@ -5,7 +5,8 @@ use Rattle.std.proofs.lemmas.Bool.{cases_lt}
 use Rattle.surface_text.specs.declared.cause.Cause.{Cause}
 use Rattle.surface_text.specs.declared.cause.Cause.TheVariants.{NoLine, CutLine, BadByte, BadFirst, BadKind, BadForm, BadNumber, BadField, BadBase, ManyBases, FewSides, ManyPolygons, BadName, AfterEnd}
 use Rattle.surface_text.specs.Spelling.{Line}
-use Rattle.surface_text.specs.Causes.{number_of, FrontOf, words_after, IsWanted, IsPrinted, IsLine, HoldsOfLine, HoldsOfNext, Holds, IsLeast, IsNextLine, IsNoNextLine}
+use Rattle.surface_text.specs.Causes.{number_of, FrontOf, words_after, IsWanted, IsPrinted, IsLine, HoldsOfLine, HoldsOfNext, Holds, IsLeast}
+use Rattle.surface_text.specs.Lines.{IsNextLine, IsNoNextLine}
 use Rattle.surface_text.specs.Faults.{IsLeastOfLine}
 use Rattle.surface_text.proofs.Stops.{same_front}
 

@@ -1,3 +1,4 @@
+pub mod CallerLemmas
 pub mod Stops
 pub mod Numbers
 pub mod Parts
@@ -16,3 +17,4 @@ pub mod Spellings
 pub mod Verdicts
 pub mod Standing
 pub mod Outcomes
+pub mod Neither

@@ -18,8 +18,8 @@ use Rattle.surface_text.specs.Spelling.{Line, Content, line_text, sides_text, li
 use Rattle.surface_text.specs.Spelling.Line.{flat, field, base, polygon, glue, end}
 use Rattle.surface_text.specs.Limits.{IsBasePoint, IsPolygon, NamesSides, IsWithinLimits}
 use Rattle.surface_text.specs.Causes.{IsLeast, IsRefused, number_of}
-use Rattle.surface_text.specs.Lines.{IsSoFar, HasFittingLength, IsTaken, IsLineRefused}
-use Rattle.surface_text.specs.Refusals.{IsFaultOf, IsFaultAt, IsBody, IsTextOf, behind_field}
+use Rattle.surface_text.specs.Lines.{IsSoFar, HasFittingLength, IsTaken, IsLineRefused, IsFaultAt, IsBody, behind_field}
+use Rattle.surface_text.specs.Refusals.{IsFaultOf, IsTextOf}
 use Rattle.surface_text.proofs.Written.{lines_then-append}
 use Rattle.surface_text.proofs.Verdicts.{refused_once, not_refused, late_least, text_injective, same_content}
 use Rattle.surface_text.proofs.Standing.{so_far, good_free, good_flat, stand_so_far, stand_whole, one_base, one_polygon, one_glue}
@@ -54,7 +54,7 @@ found_more : (start : List ℕ) (before : List Line) (line : Line) (rest after :
 found_more start before line rest after found spelled = found ∙ ap (lines_then before) spelled ∙ sym (lines_then-append before (line ∷ []) after)
 
 -- a line takes bytes
-line_longer : (rest after text : List ℕ) → rest ≡ text ++ 10 ∷ after → length text + length after < length rest
+pub line_longer : (rest after text : List ℕ) → rest ≡ text ++ 10 ∷ after → length text + length after < length rest
 line_longer rest after text e =
     let long : length rest ≡ length (text ++ 10 ∷ after) = ap length e in
     let parts = length-append text (10 ∷ after) in
@@ -73,10 +73,10 @@ polygon_long sides = let long = sides_long sides in omega arith
 
 module _ (start : List ℕ) (size : ℕ) (few : size ≤ 1048576) (d : ℕ) (bs : List Point) (ps : List (List Vec2)) (gs : List Glue) (rest after : List ℕ) where
   -- the file of these
-  abbrev file_with : List Point → List (List Vec2) → List Glue → Content
+  abbrev pub file_with : List Point → List (List Vec2) → List Glue → Content
   file_with bases polygons glues = record { field = d; bases = bases; polygons = polygons; glues = glues }
 
-  more_base : (at : Point) → BodySoFar start size (file_with bs ps gs) rest → IsTaken (file_with bs ps gs) rest (base at) after
+  pub more_base : (at : Point) → BodySoFar start size (file_with bs ps gs) rest → IsTaken (file_with bs ps gs) rest (base at) after
       → BodySoFar start size (file_with (bs ++ at ∷ []) ps gs) after
   more_base at was taken =
       let may = taken.follows in
@@ -104,7 +104,7 @@ module _ (start : List ℕ) (size : ℕ) (few : size ≤ 1048576) (d : ℕ) (bs 
         shorter = omega arith;
       }
 
-  more_polygon : (sides : List Vec2) → BodySoFar start size (file_with bs ps gs) rest → IsTaken (file_with bs ps gs) rest (polygon sides) after
+  pub more_polygon : (sides : List Vec2) → BodySoFar start size (file_with bs ps gs) rest → IsTaken (file_with bs ps gs) rest (polygon sides) after
       → BodySoFar start size (file_with bs (ps ++ sides ∷ []) gs) after
   more_polygon sides was taken =
       let may = taken.follows in
@@ -131,7 +131,7 @@ module _ (start : List ℕ) (size : ℕ) (few : size ≤ 1048576) (d : ℕ) (bs 
         shorter = omega arith;
       }
 
-  more_glue : (g : Glue) → BodySoFar start size (file_with bs ps gs) rest → IsTaken (file_with bs ps gs) rest (glue g) after
+  pub more_glue : (g : Glue) → BodySoFar start size (file_with bs ps gs) rest → IsTaken (file_with bs ps gs) rest (glue g) after
       → BodySoFar start size (file_with bs ps (gs ++ g ∷ [])) after
   more_glue g was taken =
       let may = taken.follows in
@@ -153,7 +153,7 @@ module _ (start : List ℕ) (size : ℕ) (few : size ≤ 1048576) (d : ℕ) (bs 
         shorter = omega arith;
       }
 
-  more_end : BodySoFar start size (file_with bs ps gs) rest → IsTaken (file_with bs ps gs) rest end after → IsBody start (file_with bs ps gs) after
+  pub more_end : BodySoFar start size (file_with bs ps gs) rest → IsTaken (file_with bs ps gs) rest end after → IsBody start (file_with bs ps gs) after
   more_end was taken =
       let is = was.so_far in
       let fits = was.shorter in

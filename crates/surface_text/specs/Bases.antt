@@ -1,4 +1,4 @@
--- What a base line is refused for.
+-- For private contracts alone: what a base line is refused for.
 use Rattle.std.specs.Prelude.{ℕ, ◌≤◌, List}
 use Rattle.surface_text.specs.declared.cause.Cause.{Cause}
 use Rattle.surface_text.specs.declared.cause.Cause.TheVariants.{BadForm, BadNumber, BadBase, ManyBases}
@@ -6,7 +6,7 @@ use Rattle.surface_text.specs.declared.file.Point.{Point}
 use Rattle.surface_text.specs.Limits.{IsBoundedPoint, IsAbove}
 use Rattle.surface_text.specs.Readings.{IsTheOne, IsOneBeyond, IsTailPoint}
 
--- the cause of a refusal of a base line behind this many
+-- a base line with this tail, behind so many base lines, is refused for this cause
 abbrev pub IsBaseBad : List ℕ → ℕ → Cause → Type 0
 IsBaseBad tail bases BadForm = (at : Point) → ¬ (IsTailPoint tail at)
 IsBaseBad tail bases BadNumber = IsOneBeyond (IsTailPoint tail) IsBoundedPoint

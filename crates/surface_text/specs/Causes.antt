@@ -26,7 +26,7 @@ number_of ManyPolygons = 12
 number_of BadName = 13
 number_of AfterEnd = 14
 
--- nothing, or bytes that begin with the stop
+-- there are no bytes, or they begin with the stop
 abbrev pub StopsAt : ℕ → List ℕ → Type 0
 StopsAt stop [] = ⊤
 StopsAt stop (byte ∷ bytes) = byte ≡ stop
@@ -56,17 +56,17 @@ words_after (line ∷ next ∷ lines) = words_after (next ∷ lines)
 abbrev pub IsWanted : List Line → Type 0
 IsWanted before = words_after before ≢ []
 
--- the bytes are those of a printed character
+-- the byte is that of a printed character
 abbrev pub IsPrinted : ℕ → Type 0
 IsPrinted byte = (32 ≤ byte) × (byte ≤ 126)
 
--- the form of a line beyond its spelling: fractions have theirs, and a polygon has a vector
+-- the form of a line beyond its spelling: its fractions have their form, and a polygon line has a vector
 abbrev pub HasForm : Line → Type 0
 HasForm (base at) = HasFractions at
 HasForm (polygon sides) = 1 ≤ length sides
 HasForm line = ⊤
 
--- the bytes are this line, in its form
+-- the bytes spell this line, which has its form
 abbrev pub IsLine : List ℕ → Line → Type 0
 IsLine bytes line = (bytes ≡ line_text line) × HasForm line
 
@@ -98,12 +98,12 @@ abbrev pub IsOnOrBelow : Line → Type 0
 IsOnOrBelow (base at) = ¬ (IsAbove at)
 IsOnOrBelow line = ⊥
 
--- a base line
+-- the line is a base line
 abbrev pub IsBaseLine : Line → Type 0
 IsBaseLine (base at) = ⊤
 IsBaseLine line = ⊥
 
--- a polygon line
+-- the line is a polygon line
 abbrev pub IsPolygonLine : Line → Type 0
 IsPolygonLine (polygon sides) = ⊤
 IsPolygonLine line = ⊥
@@ -118,7 +118,7 @@ abbrev pub NamesNone : List (List Vec2) → Line → Type 0
 NamesNone polygons (glue g) = ¬ (NamesSides polygons g)
 NamesNone polygons line = ⊥
 
--- what is wrong with a line that has its form, behind these lines
+-- a line that has its form is wrong for this cause, behind these lines
 abbrev pub IsWrong : Cause → List Line → Line → Type 0
 IsWrong BadNumber before line = ¬ (HasBoundedNumbers line)
 IsWrong BadField before line = IsNoField line
@@ -176,14 +176,3 @@ pub record IsRefused (bytes : List ℕ) (number line : ℕ) : Type 0 where
   pub least : IsLeast cause before rest
   pub number_is : number ≡ number_of cause
   pub line_is : line ≡ length before + 1
-
--- the rest begins with this line of printed characters, and its line feed
-abbrev pub IsNextLine : List ℕ → List ℕ → List ℕ → Type 0
-IsNextLine rest line after = FrontOf 10 rest line (10 ∷ after) × AllByRecursion IsPrinted line
-
--- why the rest begins with no such line
-abbrev pub IsNoNextLine : List ℕ → Cause → Type 0
-IsNoNextLine rest NoLine = rest ≡ []
-IsNoNextLine rest CutLine = (rest ≢ []) × AllByRecursion (λ byte. byte ≢ 10) rest
-IsNoNextLine rest BadByte = (line after : List ℕ) × FrontOf 10 rest line (10 ∷ after) × ¬ (AllByRecursion IsPrinted line)
-IsNoNextLine rest cause = ⊥

@@ -9,7 +9,7 @@ use Rattle.surface_text.specs.declared.file.Point.{Point}
 use Rattle.surface_text.specs.declared.file.Glue.{Glue}
 use Rattle.surface_text.specs.Spelling.{Content}
 
--- at most 1,000,000,000 in absolute value
+-- a whole number is bounded: at most 1,000,000,000 in absolute value
 abbrev pub IsBounded : ℤ → Type 0
 IsBounded n = unsigned_abs n ≤ 1000000000
 
@@ -21,15 +21,15 @@ IsLowest n d = IsGcd (unsigned_abs n) (unsigned_abs d) 1
 abbrev pub IsFraction : ℤ → ℤ → Type 0
 IsFraction n d = (pos 1 ≤ℤ d) × (IsBounded n → IsBounded d → IsLowest n d)
 
--- both fractions have their form
+-- both fractions of a point have their form
 abbrev pub HasFractions : Point → Type 0
 HasFractions at = IsFraction at.xn at.xd × IsFraction at.yn at.yd
 
--- all four numbers are bounded
+-- all four numbers of a point are bounded
 abbrev pub IsBoundedPoint : Point → Type 0
 IsBoundedPoint at = IsBounded at.xn × IsBounded at.xd × IsBounded at.yn × IsBounded at.yd
 
--- Y > X·X, with denominators above 0
+-- a point lies above the parabola: Y > X·X, multiplied by its denominators
 abbrev pub IsAbove : Point → Type 0
 IsAbove at = ((at.xn *ℤ at.xn) *ℤ at.yd) <ℤ ((at.xd *ℤ at.xd) *ℤ at.yn)
 
@@ -39,15 +39,15 @@ pub record IsBasePoint (at : Point) : Type 0 where
   pub bounded : IsBoundedPoint at
   pub above : IsAbove at
 
--- both parts are bounded
+-- both parts of a K-integer are bounded
 abbrev pub IsBoundedQuad : Quad → Type 0
 IsBoundedQuad x = IsBounded x.a × IsBounded x.b
 
--- both coordinates are
+-- both coordinates of a vector are bounded
 abbrev pub IsBoundedVector : Vec2 → Type 0
 IsBoundedVector v = IsBoundedQuad v.s × IsBoundedQuad v.t
 
--- a polygon: at least three sides, all of them bounded
+-- a polygon within the limits: at least three sides, all of them bounded
 abbrev pub IsPolygon : List Vec2 → Type 0
 IsPolygon sides = (3 ≤ length sides) × AllByRecursion IsBoundedVector sides
 
@@ -55,7 +55,7 @@ IsPolygon sides = (3 ≤ length sides) × AllByRecursion IsBoundedVector sides
 abbrev pub IsThere : List (List Vec2) → ℕ → ℕ → Type 0
 IsThere polygons p e = (p < length polygons) × (e < length (get_or polygons p []))
 
--- both sides that are glued are there
+-- both sides that a glue line names are there
 abbrev pub NamesSides : List (List Vec2) → Glue → Type 0
 NamesSides polygons g = IsThere polygons g.p1 g.e1 × IsThere polygons g.p2 g.e2
 

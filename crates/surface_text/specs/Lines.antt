@@ -1,17 +1,21 @@
--- What is read line by line: a file so far, and the line that follows it.
-use Rattle.std.specs.Prelude.{◌≡◌, ◌≤◌, ◌<◌, ℕ, List, [], ◌∷◌, ◌++◌, length, ⊤}
+-- For private contracts alone: what is read line by line, a file so far and the line that follows it.
+use Rattle.std.specs.Prelude.{◌≡◌, ◌≢◌, ◌≤◌, ◌<◌, ℕ, List, [], ◌∷◌, ◌++◌, length, ⊤}
 use Rattle.std.specs.List.{AllByRecursion}
 use Rattle.quad_field.specs.FieldNumber.{IsFieldNumber}
 use Rattle.plane.specs.declared.vec2.Vec2.{Vec2}
+use Rattle.surface_text.specs.declared.cause.Cause.{Cause}
+use Rattle.surface_text.specs.declared.cause.Cause.TheVariants.{NoLine, CutLine, BadByte}
+use Rattle.surface_text.specs.declared.file.TextFault.{TextFault}
+use Rattle.surface_text.specs.declared.file.TextFault.TheVariants.{Bad, Memory}
 use Rattle.surface_text.specs.declared.lines.BodyLine.{BodyLine}
 use Rattle.surface_text.specs.declared.lines.BodyLine.TheVariants as body_lines
 use Rattle.surface_text.specs.declared.sides.LineFault.{LineFault}
 use Rattle.surface_text.specs.declared.sides.LineFault.TheVariants as faults
-use Rattle.surface_text.specs.Spelling.{Line, Content, line_text}
-use Rattle.surface_text.specs.Limits.{IsBasePoint, IsPolygon, NamesSides}
-use Rattle.surface_text.specs.Causes.{IsLeast}
+use Rattle.surface_text.specs.Spelling.{Line, Content, line_text, lines_then, lines_of}
+use Rattle.surface_text.specs.Limits.{IsBasePoint, IsPolygon, NamesSides, IsWithinLimits}
+use Rattle.surface_text.specs.Causes.{number_of, FrontOf, IsPrinted, IsLeast}
 
--- the most sides that a polygon line of 1,048,576 bytes can have
+-- sides are no more than a polygon line of 1,048,576 bytes can have
 abbrev pub HasFittingLength : List Vec2 → Type 0
 HasFittingLength sides = length sides ≤ 1048576
 
@@ -46,7 +50,33 @@ pub record IsTaken (file : Content) (rest : List ℕ) (line : Line) (after : Lis
   pub spelled : rest ≡ line_text line ++ 10 ∷ after
   pub follows : MayFollow file line
 
--- the cause of a refusal is the least that holds behind these lines; want of memory says nothing
+-- a refusal of a line names the least cause that holds behind these lines; want of memory says nothing
 abbrev pub IsLineRefused : List Line → List ℕ → LineFault → Type 0
 IsLineRefused before rest (faults.Bad cause) = IsLeast cause before rest
 IsLineRefused before rest faults.Memory = ⊤
+
+-- the rest begins with this line of printed characters, and its line feed
+abbrev pub IsNextLine : List ℕ → List ℕ → List ℕ → Type 0
+IsNextLine rest line after = FrontOf 10 rest line (10 ∷ after) × AllByRecursion IsPrinted line
+
+-- the rest begins with no such line, for this cause
+abbrev pub IsNoNextLine : List ℕ → Cause → Type 0
+IsNoNextLine rest NoLine = rest ≡ []
+IsNoNextLine rest CutLine = (rest ≢ []) × AllByRecursion (λ byte. byte ≢ 10) rest
+IsNoNextLine rest BadByte = (line after : List ℕ) × FrontOf 10 rest line (10 ∷ after) × ¬ (AllByRecursion IsPrinted line)
+IsNoNextLine rest cause = ⊥
+
+-- a refusal of a line, as the refusal of the text in the line of this number
+abbrev pub IsFaultAt : LineFault → ℕ → TextFault → Type 0
+IsFaultAt (faults.Bad cause) line fault = fault ≡ Bad (number_of cause) line
+IsFaultAt faults.Memory line fault = fault ≡ Memory
+
+-- the bytes behind the field line of this number, and the two lines before them
+abbrev pub behind_field : ℕ → List ℕ → List ℕ
+behind_field d bytes = lines_then (Line.flat ∷ Line.field d ∷ []) bytes
+
+-- the bytes are all lines of this file within the limits, and then the rest
+pub record IsBody (bytes : List ℕ) (file : Content) (rest : List ℕ) : Type 0 where
+  pub spelled : bytes ≡ lines_then (lines_of file) rest
+  pub limits : IsWithinLimits file
+  pub few_glues : length file.glues ≤ 1048576

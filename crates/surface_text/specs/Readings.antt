@@ -1,4 +1,4 @@
--- What bytes are read as.
+-- For private contracts alone: what bytes are read as.
 use Rattle.std.specs.Prelude.{codes, ◌++◌, ◌≡◌, List, ℕ, suc, ℤ, pos, negsuc, ◌≤ℤ◌}
 use Rattle.surface_text.specs.declared.file.Point.{Point}
 use Rattle.surface_text.specs.declared.fractions.Fraction.{Fraction}
@@ -20,33 +20,33 @@ pub record IsOneBeyond {X : Type 0} (Spells Fits : X → Type 0) : Type 0 where
   pub found : Spells x
   pub beyond : (y : X) → Spells y → ¬ (Fits y)
 
--- the value, one beyond the bounds, or none
+-- bytes are read as the one value that they spell, as one beyond the bounds, or as none
 abbrev pub IsReading : {X : Type 0} → (X → Type 0) → (X → Type 0) → Reading X → Type 0
 IsReading Spells Fits (reading.Value x) = IsTheOne Spells Fits x
 IsReading Spells Fits reading.Large = IsOneBeyond Spells Fits
 IsReading {X} Spells Fits reading.Not = (x : X) → ¬ (Spells x)
 
--- the digits are those of -n, and n is below 0
+-- n is below 0, and the digits are those of -n
 abbrev pub IsNegative : List ℕ → ℤ → Type 0
 IsNegative digits (pos n) = ⊥
 IsNegative digits (negsuc n) = digits ≡ natural_text (suc n)
 
--- what follows a numerator is this denominator
+-- what follows a numerator spells this denominator
 abbrev pub IsDenominator : List ℕ → ℤ → Type 0
 IsDenominator bytes d = (bytes ≡ denominator_text d) × (pos 1 ≤ℤ d)
 
--- the bytes are this fraction, in its form
+-- the bytes spell this fraction, which has the form of one
 abbrev pub IsFractionOf : List ℕ → Fraction → Type 0
 IsFractionOf bytes f = (bytes ≡ fraction_text f.n f.d) × IsFraction f.n f.d
 
--- both numbers are bounded
+-- numerator and denominator are bounded
 abbrev pub IsBoundedFraction : Fraction → Type 0
 IsBoundedFraction f = IsBounded f.n × IsBounded f.d
 
--- the bytes are this base point, in its form
+-- the bytes spell this base point, whose fractions have their form
 abbrev pub IsPointOf : List ℕ → Point → Type 0
 IsPointOf bytes at = (bytes ≡ point_text at) × HasFractions at
 
--- what follows the word of a base line is this point, in its form
+-- what follows the word of a base line spells this point, whose fractions have their form
 abbrev pub IsTailPoint : List ℕ → Point → Type 0
 IsTailPoint tail at = (tail ≡ codes " " ++ point_text at) × HasFractions at

@@ -8,24 +8,24 @@ use Rattle.surface_text.specs.declared.file.Polygon.{Polygon}
 use Rattle.surface_text.specs.declared.file.Glue.{Glue}
 use Rattle.surface_text.specs.declared.file.SurfaceFile.{SurfaceFile}
 
--- what follows the numerator: nothing where the denominator is 1, and else `/` and the denominator
+-- what follows the numerator of a fraction: nothing where the denominator is 1, and else `/` and the denominator
 abbrev pub denominator_text : ℤ → List ℕ
 denominator_text (pos (suc zero)) = []
 denominator_text d = codes "/" ++ whole_text d
 
--- the fraction n/d
+-- the text of the fraction n/d
 abbrev pub fraction_text : ℤ → ℤ → List ℕ
 fraction_text n d = whole_text n ++ denominator_text d
 
--- a base point `X Y`
+-- the text `X Y` of a base point
 abbrev pub point_text : Point → List ℕ
 point_text at = fraction_text at.xn at.xd ++ codes " " ++ fraction_text at.yn at.yd
 
--- sides that are glued, `P.E P.E`
+-- the text `P.E P.E` of two sides that are glued
 abbrev pub glue_text : Glue → List ℕ
 glue_text g = natural_text g.p1 ++ codes "." ++ natural_text g.e1 ++ codes " " ++ natural_text g.p2 ++ codes "." ++ natural_text g.e2
 
--- the sides of a polygon, each with a space before it
+-- the text of a polygon's sides, each with a space before it
 abbrev pub sides_text : List Vec2 → List ℕ
 sides_text sides = flat_map (λ v. codes " " ++ vector_text v) sides
 
@@ -47,7 +47,7 @@ word_of (polygon sides) = codes "polygon"
 word_of (glue g) = codes "glue"
 word_of end = codes "end"
 
--- what follows the word
+-- what follows the word of a line
 abbrev pub tail_of : Line → List ℕ
 tail_of flat = codes " 1"
 tail_of (field d) = codes " " ++ natural_text d
@@ -56,11 +56,11 @@ tail_of (polygon sides) = sides_text sides
 tail_of (glue g) = codes " " ++ glue_text g
 tail_of end = []
 
--- a line without its line feed
+-- the text of a line without its line feed
 abbrev pub line_text : Line → List ℕ
 line_text line = word_of line ++ tail_of line
 
--- lines, a line feed (10) behind each, and the rest
+-- the texts of lines, a line feed (10) behind each, and then the rest
 abbrev pub lines_then : List Line → List ℕ → List ℕ
 lines_then [] rest = rest
 lines_then (line ∷ lines) rest = line_text line ++ 10 ∷ lines_then lines rest

@@ -3,14 +3,14 @@
 ghost use Rattle.std.specs.Prelude.{◌≡◌, ◌↔◌, ◌≤◌, ◌<◌, true, [], ◌∷◌, ◌++◌, length, IsTrue, MatchOption, MatchResult, Contains, map};
 ghost use Rattle.quad_field.specs.FieldNumber.{IsFieldNumber};
 ghost use Rattle.surface_text.specs.Spelling.{Line, line_text, content, lines_before_end};
-ghost use Rattle.surface_text.specs.Lines.{HasFittingLength, IsSoFar, MayFollow, IsTaken, line_of, IsLineRefused};
+ghost use Rattle.surface_text.specs.Lines.{HasFittingLength, IsSoFar, MayFollow, IsTaken, line_of, IsLineRefused, IsNextLine, IsNoNextLine};
 ghost use Rattle.surface_text.specs.declared.file.Polygon.{Polygon as PolygonValue};
 ghost use Rattle.surface_text.specs.Limits.{IsBoundedPoint, IsAbove, IsThere, NamesSides};
 ghost use Rattle.surface_text.specs.Readings.{IsReading, IsTheOne, IsTailPoint};
 ghost use Rattle.surface_text.specs.Bases.{IsBaseBad};
 ghost use Rattle.surface_text.specs.Faults.{IsLeastOfLine, IsBodyRefused, IsTailNumber, IsFieldBad, AreTheSides, IsPolygonRefused, IsTailGlue, IsBoundedGlue, IsGlueBad, word_of_kind, words_by, IsOpen};
 ghost use Rattle.std.specs.List.{AllByRecursion};
-ghost use Rattle.surface_text.specs.Causes.{StopsAt, IsPrinted, IsNextLine, IsNoNextLine, IsLeast};
+ghost use Rattle.surface_text.specs.Causes.{StopsAt, IsPrinted, IsLeast};
 
 use super::cause::Cause;
 use super::file::{Glue, Point, Polygon, SurfaceFile};

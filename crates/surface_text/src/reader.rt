@@ -6,7 +6,8 @@ ghost use Rattle.surface_text.specs.declared.file.TextFault.TheVariants.{Bad, Me
 ghost use Rattle.surface_text.specs.Spelling.{Content, content, text, lines_before_end};
 ghost use Rattle.surface_text.specs.Limits.{IsWithinLimits};
 ghost use Rattle.surface_text.specs.Causes.{IsRefused, number_of};
-ghost use Rattle.surface_text.specs.Refusals.{IsFaultOf, IsFaultAt, IsBody, IsTextOf, behind_field};
+ghost use Rattle.surface_text.specs.Refusals.{IsFaultOf, IsTextOf};
+ghost use Rattle.surface_text.specs.Lines.{IsFaultAt, IsBody, behind_field};
 
 use super::cause::Cause;
 use super::file::{SurfaceFile, TextFault};

@@ -2,7 +2,7 @@ use Rattle.std.proofs.Common.{length, refl, subst}
 use Rattle.surface_text.specs.declared.lines.BodyLine.{BodyLine}
 use Rattle.surface_text.specs.Spelling.{content}
 use Rattle.surface_text.specs.Lines.{IsTaken, line_of}
-use Rattle.surface_text.specs.Refusals.{behind_field}
+use Rattle.surface_text.specs.Lines.{behind_field}
 use Rattle.surface_text.proofs.Outcomes.{body_base, body_polygon, body_glue, body_end, body_refused}
 use Rattle.surface_text.proofs.reader.body.Goals as goal
 

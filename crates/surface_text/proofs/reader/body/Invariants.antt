@@ -1,6 +1,6 @@
 use Rattle.std.proofs.Common.{length}
 use Rattle.surface_text.specs.Spelling.{content}
-use Rattle.surface_text.specs.Refusals.{behind_field}
+use Rattle.surface_text.specs.Lines.{behind_field}
 use Rattle.surface_text.proofs.Outcomes.{BodySoFar}
 use Rattle.surface_text.proofs.reader.body.Given as goal
 

@@ -1,6 +1,6 @@
 use Rattle.std.proofs.Common.{◌≡◌, ◌≢◌, [], length, ap, arith}
 use Rattle.surface_text.specs.Spelling.{content}
-use Rattle.surface_text.specs.Refusals.{behind_field}
+use Rattle.surface_text.specs.Lines.{behind_field}
 use Rattle.surface_text.proofs.Outcomes.{field_answer, behind_two, late_answer}
 use Rattle.surface_text.proofs.reader.file_of.Goals as goal
 
