@@ -1,0 +1,20 @@
+//! What the program answers: how a run ends, with which number, and the texts that the commands write.
+//! Nothing here reads or writes; a text is composed whole.
+#![tactic(auto)]
+
+mod cause;
+mod counts;
+mod fault;
+mod formula;
+mod half_edges;
+mod place;
+mod status;
+
+pub use counts::check_text;
+pub use fault::fault_line;
+pub use half_edges::base_text;
+pub use place::Place;
+pub use status::{Status, status_number};
+
+#[cfg(test)]
+mod tests;
