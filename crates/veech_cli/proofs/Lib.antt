@@ -1,6 +1,5 @@
-pub mod Edges
-pub mod Lines
-pub mod Surfaces
-pub mod Commanded
-pub mod Bases
-pub mod Outcomes
+mod Commanded
+mod Listed
+mod Inputs
+mod Settling
+mod Based

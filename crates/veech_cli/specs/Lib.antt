@@ -1,6 +1,7 @@
 pub mod Commands
 pub mod SurfaceFiles
 pub mod Endings
-pub mod Statuses
-pub mod Texts
+pub mod Owed
 pub mod Runs
+pub mod Refusals
+pub mod Surfaces

@@ -3,14 +3,10 @@ use Rattle.std.specs.Prelude.{◌≡◌, ℕ, ◌<◌, ◌≤◌, List, length}
 use Rattle.surface_text.specs.Spelling.{Content, text}
 use Rattle.surface_text.specs.Limits.{IsWithinLimits}
 use Rattle.surface_text.specs.Causes.{IsRefused as IsTextRefused}
-use Rattle.gluing.specs.Gluings.{Gluing, IsGluing}
+use Rattle.gluing.specs.Gluings.{IsGluing, gluing_of}
 use Rattle.gluing.specs.Refusals.{IsRefused as IsGluingRefused}
 use Rattle.ear_cut.specs.Cuttings.{IsEarCutting}
 use Rattle.tri_core.specs.declared.half.Half.{Half}
-
--- the polygons of a file, with the glue lines that pair their sides
-abbrev pub gluing_of : Content → Gluing
-gluing_of file = record { field = file.field; polygons = file.polygons; glues = file.glues }
 
 -- the input is the text of a file within the limits
 pub record IsTextOf (input : List ℕ) (file : Content) : Type 0 where

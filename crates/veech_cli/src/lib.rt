@@ -2,19 +2,16 @@
 #![tactic(auto)]
 
 mod base;
-mod cause;
 mod check;
 mod command;
-mod place;
+pub mod laws;
 mod refusal;
 mod run;
-mod status;
 mod surface;
 mod words;
 
-pub use place::Place;
+pub use answer_text::{Place, Status, status_number};
 pub use run::run_plain;
-pub use status::{Status, status_number};
 pub use words::WordList;
 
 #[cfg(test)]

@@ -1,11 +1,7 @@
 //! From the bytes of a surface file to its triangulation.
 
-ghost use Rattle.std.specs.Prelude.{◌≡◌, ◌≤◌, ℕ, List, length, IfOk, IfErr};
-ghost use Rattle.surface_text.specs.Spelling.{Content};
-ghost use Rattle.tri_core.specs.declared.half.Half.{Half as HalfEdge};
-ghost use Rattle.veech_cli.specs.SurfaceFiles.{gluing_of, IsAccepted, IsTriangulationOf, IsRefused};
-ghost use Rattle.veech_cli.specs.Runs.{IsFileRefusal, IsRefusedFor, IsGluedFrom, IsTriangulatedFrom};
-ghost use Rattle.veech_cli.specs.declared.refusal.Refusal.TheVariants.{Memory};
+ghost use Rattle.std.specs.Prelude.{◌≡◌, ◌≤◌, length, IfOk, IfErr};
+ghost use Rattle.veech_cli.specs.Surfaces.{IsGluedFrom, IsTriangulatedFrom, RefusesFile};
 
 use super::refusal::Refusal;
 use ear_cut::cut;
@@ -28,12 +24,7 @@ pub(crate) fn surface_of(alloc: Global, input: &[u8]) -> Result<Surface, Refusal
     requires { length input.now ≤ 1048576 }
     ensures field { IfOk result (λ surface. surface.field ≡ surface.tri.field) }
     ensures made { IfOk result (λ surface. IsTriangulatedFrom input.now surface.bases.items surface.tri) }
-    // There is only one such file with one such triangulation.
-    ensures only { IfOk result (λ surface. (file : Content) (halves : List HalfEdge) → IsAccepted input.now file → IsTriangulationOf file halves
-        → (surface.tri.field ≡ file.field) × (surface.bases.items ≡ file.bases) × (surface.tri.halves ≡ halves)) }
-    ensures refusal { IfErr result (IsFileRefusal input.now) }
-    ensures accepted { (file : Content) → IsAccepted input.now file → IfErr result (λ refusal. refusal ≡ Memory) }
-    ensures refused { (cause line : ℕ) → IsRefused input.now cause line → IsRefusedFor cause line result }
+    ensures refused { IfErr result (λ refusal. RefusesFile input.now refusal.status) }
 {
     let (field, bases, glued) = glued(alloc, input)?;
     let tri = cut(alloc, &field, &glued)?;
@@ -44,15 +35,11 @@ pub(crate) fn surface_of(alloc: Global, input: &[u8]) -> Result<Surface, Refusal
 fn glued(alloc: Global, input: &[u8]) -> Result<(Field, Vec<Point>, Glued), Refusal>
     requires { length input.now ≤ 1048576 }
     ensures made { IfOk result (λ made. IsGluedFrom input.now made.0 made.1.items made.2) }
-    ensures only { IfOk result (λ made. (file : Content) → IsAccepted input.now file
-        → (made.0 ≡ file.field) × (made.1.items ≡ file.bases) × (made.2 ≡ gluing_of file)) }
-    ensures refusal { IfErr result (IsFileRefusal input.now) }
-    ensures accepted { (file : Content) → IsAccepted input.now file → IfErr result (λ refusal. refusal ≡ Memory) }
-    ensures refused { (cause line : ℕ) → IsRefused input.now cause line → IsRefusedFor cause line result }
+    ensures refused { IfErr result (λ refusal. RefusesFile input.now refusal.status) }
 {
     let file = read(alloc, input)?;
     let Some(field) = Field::make(file.field) else {
-        return Err(Refusal::Memory);
+        unreachable!();
     };
     let glued = glue(alloc, &field, &file)?;
     Ok((field, file.bases, glued))

@@ -1,0 +1,84 @@
+-- What the flipping of a triangulation says of the input that it was made from.
+use Rattle.std.proofs.Common.{◌≡◌, ℕ, inl, inr, refl, List, ap, sym, ◌∙◌, subst, Err}
+use Rattle.std.specs.Prelude.{Ok}
+use Rattle.surface_text.specs.Limits.{IsBasePoint}
+use Rattle.surface_text.specs.declared.file.Point.{Point}
+use Rattle.tri_core.specs.declared.half.Half.{Half}
+use Rattle.tri_core.specs.Triangulation.{Triangulation}
+use Rattle.delaunay_flip.specs.declared.base.Base.{Base}
+use Rattle.delaunay_flip.specs.declared.base.BaseFault.{BaseFault}
+use Rattle.delaunay_flip.specs.Bases.{Ending, EndsListed}
+use Rattle.delaunay_flip.specs.Answers.{IsRight}
+use Rattle.quad_field.specs.declared.formula.Formula.{Formula}
+use Rattle.answer_text.specs.declared.status.Status.TheVariants.{Done, NotStrict, FlipsEnded, TooWide}
+use Rattle.answer_text.specs.declared.place.Place.TheVariants.{Flips}
+use Rattle.answer_text.specs.BaseTexts.{half_edges_text}
+use Rattle.veech_cli.specs.declared.command.Command.TheVariants as commands
+use Rattle.veech_cli.specs.Endings.{or_standard, points_of, status_of_ending, text_of_ending}
+use Rattle.veech_cli.specs.Owed.{Owes}
+use Rattle.veech_cli.specs.Refusals.{status_of_base}
+use Rattle.veech_cli.specs.Surfaces.{IsTriangulatedFrom, IsRefusal, IsRefusalOf}
+use Rattle.veech_cli.proofs.Listed.{listed_point}
+use Rattle.veech_cli.proofs.Inputs.{points_within}
+use Rattle.veech_cli.proofs.Settling.{refuses_memory}
+
+not_strict_refusal : (h : ℕ) → IsRefusal (NotStrict h)
+not_strict_refusal h = record { not_done = λ e. cc; not_words = λ e. cc; not_write_fault = λ e. cc; point = tt }
+
+ended_refusal : (at : Point) → IsBasePoint at → IsRefusal (FlipsEnded at)
+ended_refusal at inside = record { not_done = λ e. cc; not_words = λ e. cc; not_write_fault = λ e. cc; point = inside }
+
+wide_refusal : (formula : Formula) (n h : ℕ) → IsRefusal (TooWide formula (Flips n h))
+wide_refusal formula n h = record { not_done = λ e. cc; not_words = λ e. cc; not_write_fault = λ e. cc; point = tt }
+
+module _ (input : List ℕ) (flips : ℕ) (bases : List Point) (tri : Triangulation) (made : IsTriangulatedFrom input bases tri) where
+  -- how the flipping of the triangulation ends
+  abbrev pub Ends : Point → Ending → Type 0
+  Ends at ending = EndsListed tri.field tri.halves (or_standard bases) flips at ending
+
+  -- is how that of the file's does
+  ends_for : (at : Point) (ending : Ending) → Ends at ending → EndsListed made.0.field tri.halves (points_of made.0) flips at ending
+  ends_for at ending ends =
+      subst (λ d. EndsListed d tri.halves (or_standard made.0.bases) flips at ending) made.3
+          (subst (λ points. EndsListed tri.field tri.halves (or_standard points) flips at ending) made.2 ends)
+
+  -- so what is answered then is owed to the input
+  owed : (at : Point) (ending : Ending) → Ends at ending → Owes (commands.Base flips) input (status_of_ending at ending) (text_of_ending at ending)
+  owed at ending ends = inr (made.0, tri.halves, made.1, made.4, (at, ending, ends_for at ending ends, refl, refl))
+
+  -- and the point is a base point
+  point_inside : (at : Point) (ending : Ending) → Ends at ending → IsBasePoint at
+  point_inside at ending ends =
+      listed_point IsBasePoint made.0.field tri.halves (points_of made.0) flips at ending (ends_for at ending ends) (points_within made.0.bases made.1.text_of.limits.bases)
+
+  -- the base points are those of the file
+  pub bases_within : (P : List Point → Type 0) → P made.0.bases → P bases
+  bases_within P = subst P (sym made.2)
+
+  -- a base that is right is a strict ending
+  ended : (base : Base) → IsRight tri Ends (Ok base) → Ends base.point (Ending.strict base.tri.halves base.flips)
+  ended base (inl (at, Ending.strict later n, ends, says)) =
+      subst (λ point. Ends point (Ending.strict base.tri.halves base.flips)) (sym says.2)
+      (subst (λ halves. Ends at (Ending.strict halves base.flips)) (sym says.1)
+      (subst (λ k. Ends at (Ending.strict later k)) (sym says.3) ends))
+  ended base (inl (at, Ending.not_strict h, ends, says)) = absurd says
+  ended base (inl (at, Ending.flips_ended, ends, says)) = absurd says
+  ended base (inl (at, Ending.wide formula n h, ends, says)) = absurd says
+  ended base (inr memory) = absurd memory
+
+  pub base_owed : (base : Base) → IsRight tri Ends (Ok base) → Owes (commands.Base flips) input Done (half_edges_text base.point base.flips base.tri.halves)
+  base_owed base right = owed base.point (Ending.strict base.tri.halves base.flips) (ended base right)
+
+  pub base_point : (base : Base) → IsRight tri Ends (Ok base) → IsBasePoint base.point
+  base_point base right = point_inside base.point (Ending.strict base.tri.halves base.flips) (ended base right)
+
+  -- a fault that is right is a refusal of the input
+  pub base_refused : (fault : BaseFault) → IsRight tri Ends (Err fault) → IsRefusalOf (commands.Base flips) input (status_of_base fault)
+  base_refused fault (inl (at, Ending.strict later n, ends, says)) = absurd says
+  base_refused fault (inl (at, Ending.not_strict h, ends, says)) =
+      subst (λ f. IsRefusalOf (commands.Base flips) input (status_of_base f)) (sym says) (not_strict_refusal h, inl (owed at (Ending.not_strict h) ends))
+  base_refused fault (inl (at, Ending.flips_ended, ends, says)) =
+      subst (λ f. IsRefusalOf (commands.Base flips) input (status_of_base f)) (sym says) (ended_refusal at (point_inside at Ending.flips_ended ends), inl (owed at Ending.flips_ended ends))
+  base_refused fault (inl (at, Ending.wide formula n h, ends, says)) =
+      subst (λ f. IsRefusalOf (commands.Base flips) input (status_of_base f)) (sym says) (wide_refusal formula n h, inl (owed at (Ending.wide formula n h) ends))
+  base_refused fault (inr memory) = refuses_memory (commands.Base flips) input (status_of_base fault) (ap status_of_base memory)

@@ -1,0 +1,41 @@
+-- What a command owes an input: a status, and the text that is written with it. Every other answer of a run is a failure of an end,
+-- want of memory, or a refusal of the words.
+use Rattle.std.specs.Prelude.{◌≡◌, ℕ, ◌⊎◌, List}
+use Rattle.surface_text.specs.Spelling.{Content}
+use Rattle.surface_text.specs.declared.file.Point.{Point}
+use Rattle.tri_core.specs.declared.half.Half.{Half}
+use Rattle.cone_points.specs.Angles.{AreTurns, IsGenus}
+use Rattle.delaunay_flip.specs.Bases.{Ending, EndsListed}
+use Rattle.answer_text.specs.declared.status.Status.{Status}
+use Rattle.answer_text.specs.declared.status.Status.TheVariants.{Done, File}
+use Rattle.answer_text.specs.Lines.{status_line}
+use Rattle.answer_text.specs.CheckTexts.{counts_text}
+use Rattle.veech_cli.specs.declared.command.Command.{Command}
+use Rattle.veech_cli.specs.declared.command.Command.TheVariants.{Check, Base}
+use Rattle.veech_cli.specs.SurfaceFiles.{IsAccepted, IsTriangulationOf, IsRefused}
+use Rattle.veech_cli.specs.Endings.{points_of, status_of_ending, text_of_ending}
+
+-- what a command answers for an accepted file and its triangulation: a status and a text
+abbrev pub Answers : Command → Content → List Half → Status → List ℕ → Type 0
+-- `check`: Done, with the counts
+Answers Check file halves status text =
+    (turns : List ℕ) × (genus : ℕ) × AreTurns file.field halves turns × IsGenus halves genus
+    × (status ≡ Done) × (text ≡ counts_text halves turns genus)
+-- `base`: how the flipping ends at the file's points
+Answers (Base flips) file halves status text =
+    (at : Point) × (ending : Ending) × EndsListed file.field halves (points_of file) flips at ending
+    × (status ≡ status_of_ending at ending) × (text ≡ text_of_ending at ending)
+
+-- the refusal of an input as a surface file, with its line
+abbrev pub IsFileRefusal : List ℕ → Status → List ℕ → Type 0
+IsFileRefusal input status text =
+    (cause : ℕ) × (line : ℕ) × IsRefused input cause line × (status ≡ File cause line) × (text ≡ status_line (File cause line))
+
+-- what a command answers for the file that an input is accepted as, and its triangulation
+abbrev pub IsFileAnswer : Command → List ℕ → Status → List ℕ → Type 0
+IsFileAnswer command input status text =
+    (file : Content) × (halves : List Half) × IsAccepted input file × IsTriangulationOf file halves × Answers command file halves status text
+
+-- a command owes an input this status with this text: the refusal of the file, or what it answers for it
+abbrev pub Owes : Command → List ℕ → Status → List ℕ → Type 0
+Owes command input status text = IsFileRefusal input status text ⊎ IsFileAnswer command input status text
