@@ -1,0 +1,10 @@
+pub mod FrontLemmas
+pub mod GivenLemmas
+pub mod LineLemmas
+pub mod ParserLemmas
+pub mod RuleLemmas
+pub mod WordLemmas
+pub mod RowLemmas
+pub mod WalkLemmas
+pub mod ReadLemmas
+pub mod FoundLemmas

@@ -1,0 +1,1 @@
+-- The commands, and the words that name them.

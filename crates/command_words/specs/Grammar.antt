@@ -1,0 +1,21 @@
+-- The grammar of words, a row a command.
+use Rattle.std.specs.Prelude.{codes, List, [], ◌∷◌, Some}
+use Rattle.command_words.specs.Lines.{OptionRow, CommandRow}
+use Rattle.command_words.specs.declared.rows.NumberBounds.{NumberBounds}
+use Rattle.command_words.specs.declared.rows.PlainBounds.{PlainBounds}
+
+-- the flips of a point: from 1 to 1,000,000, and 100,000 unless given
+abbrev pub flips_option : OptionRow
+flips_option = record { name = codes "flips"; numbers = Some (record { least = 1; most = 1000000; unless_given = 100000 }) }
+
+-- no plain values
+abbrev pub no_plain : PlainBounds
+no_plain = record { fewest = 0; most = 0; below = 0 }
+
+-- `check`
+abbrev pub check_row : CommandRow
+check_row = record { word = codes "check"; options = []; plain = no_plain }
+
+-- `base [--flips N]`
+abbrev pub base_row : CommandRow
+base_row = record { word = codes "base"; options = flips_option ∷ []; plain = no_plain }

@@ -1,0 +1,44 @@
+//! The grammar of words, a row a command.
+
+ghost use Rattle.std.specs.Prelude.{◌≡◌, codes, List, [], ◌∷◌, Some};
+ghost use Rattle.command_words.specs.Grammar.{base_row};
+ghost use Rattle.command_words.specs.Rows.{row_of};
+
+use super::rows::{CommandRow, NumberBounds, OptionRow, PlainBounds};
+
+/// How many flips a point is given.
+pub(crate) const FLIPS: OptionRow = OptionRow {
+    name: "flips",
+    numbers: Some(NumberBounds {
+        least: 1,
+        most: 1_000_000,
+        unless_given: 100_000,
+    }),
+};
+
+/// No plain values.
+const NO_PLAIN: PlainBounds = PlainBounds {
+    fewest: 0,
+    most: 0,
+    below: 0,
+};
+
+/// `check`.
+pub(crate) const CHECK: CommandRow = CommandRow {
+    word: "check",
+    options: &[],
+    plain: NO_PLAIN,
+};
+
+/// `base [--flips N]`.
+pub(crate) const BASE: CommandRow = CommandRow {
+    word: "base",
+    options: &[FLIPS],
+    plain: NO_PLAIN,
+};
+
+pub(crate) fn test_row() -> CommandRow
+    ensures { row_of result ≡ base_row }
+{
+    BASE
+}
