@@ -26,7 +26,7 @@ use Rattle.command_words.proofs.WalkLemmas.{values_rows}
 
 -- ---- options by their names
 -- the option of a name takes what is given under it
-takes_of : (options : List OptionRow) (one : OptionRow) (given : Given) → AreDistinct (map (λ o. o.name) options) → IsOption options one → IsGivenOf options given → given.name ≡ one.name → Takes one.numbers given.value
+pub takes_of : (options : List OptionRow) (one : OptionRow) (given : Given) → AreDistinct (map (λ o. o.name) options) → IsOption options one → IsGivenOf options given → given.name ≡ one.name → Takes one.numbers given.value
 takes_of [] one given distinct among h e = absurd h
 takes_of (first ∷ options) one given distinct (inl same) (inl h) e = subst (λ (o : OptionRow). Takes o.numbers given.value) same h.1
 takes_of (first ∷ options) one given distinct (inl same) (inr h) e = absurd (elsewhere options given first.name distinct.0 h (e ∙ sym (ap (λ (o : OptionRow). o.name) same)))

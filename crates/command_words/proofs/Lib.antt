@@ -8,3 +8,5 @@ pub mod RowLemmas
 pub mod WalkLemmas
 pub mod ReadLemmas
 pub mod FoundLemmas
+pub mod ValueLemmas
+pub mod CommandLemmas

@@ -36,7 +36,7 @@ all_at P [] more x all = all.0
 all_at P (first ∷ xs) more x all = all_at P xs more x all.1
 
 -- no option is given where plain values stand
-plain_first : (plain : List ℕ) (given : Given) (rest : List (List ℕ)) → map natural_text plain ≡ given_words given ++ rest → ⊥
+pub plain_first : (plain : List ℕ) (given : Given) (rest : List (List ℕ)) → map natural_text plain ≡ given_words given ++ rest → ⊥
 plain_first [] given rest e =
     let bad : [] ≡ ((45 ∷ 45 ∷ (given.name ++ tail_text given.value)) ∷ (more_words given.value ++ rest)) = e ∙ ap (λ words. words ++ rest) (opened given.name given.value) in
     cc

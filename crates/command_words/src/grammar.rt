@@ -1,9 +1,5 @@
 //! The grammar of words, a row a command.
 
-ghost use Rattle.std.specs.Prelude.{◌≡◌, codes, List, [], ◌∷◌, Some};
-ghost use Rattle.command_words.specs.Grammar.{base_row};
-ghost use Rattle.command_words.specs.Rows.{row_of};
-
 use super::rows::{CommandRow, NumberBounds, OptionRow, PlainBounds};
 
 /// How many flips a point is given.
@@ -36,9 +32,3 @@ pub(crate) const BASE: CommandRow = CommandRow {
     options: &[FLIPS],
     plain: NO_PLAIN,
 };
-
-pub(crate) fn test_row() -> CommandRow
-    ensures { row_of result ≡ base_row }
-{
-    BASE
-}

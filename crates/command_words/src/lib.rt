@@ -1,12 +1,15 @@
-//! The words of a command line: which lists of words are commands, and what they say.
+//! The words of a command line: which lists of words name a command, and what they say of it.
+//! A list of words is looked at by the grammar, which takes no memory, and a list that it takes is read by clap.
 #![tactic(auto)]
 
+mod command;
 mod fronts;
 mod grammar;
 mod lines;
 mod parsing;
 mod rows;
+mod values;
 mod words;
 
-pub(crate) use rows::{CommandRow, OptionRow};
+pub use command::{Command, read_command};
 pub use words::WordList;

@@ -1,0 +1,81 @@
+-- Words name one command.
+use Rattle.std.proofs.Common.{◌≡◌, ◌∙◌, ℕ, List, [], ◌∷◌, ◌++◌, map, codes, Option, Some, None, IsSome, true≢false, MatchOption, refl, ap, ap₂, sym, subst, arith}
+use Rattle.std.specs.Prelude.{IsSomeAnd}
+use Rattle.std.specs.List.{AllByRecursion, flat_map}
+use Rattle.std.proofs.lemmas.List.{append_assoc}
+use Rattle.plane.specs.Spelling.{natural_text}
+use Rattle.plane.proofs.CallerLemmas.{natural_text_injective}
+use Rattle.command_words.specs.declared.rows.NumberBounds.{NumberBounds}
+use Rattle.command_words.specs.declared.command.Command.{Command}
+use Rattle.command_words.specs.declared.command.Command.TheVariants.{Check, Base}
+use Rattle.command_words.specs.Lines.{OptionRow, CommandRow, Given, given_words, IsGivenOf, IsLine, IsTaken, number_given}
+use Rattle.command_words.specs.Grammar.{base_row, flips_option}
+use Rattle.command_words.specs.Commands.{IsNumberOf, row_of_command, AreRead, Names, AreTaken}
+use Rattle.command_words.specs.Fronts.{IsRow}
+use Rattle.command_words.proofs.GivenLemmas.{one_given}
+use Rattle.command_words.proofs.LineLemmas.{plain_first}
+
+-- an option with a number has one in every line
+some_number : (one : OptionRow) (options : List Given) → IsSome one.numbers → (n : ℕ) × IsNumberOf one options n
+some_number one options some = at (number_given one.name options) one.numbers some
+  where
+    at : (given : Option ℕ) (numbers : Option NumberBounds) → IsSome numbers → (n : ℕ) × MatchOption given (IsSomeAnd numbers (λ numbers. n ≡ numbers.unless_given)) (λ m. n ≡ m)
+    at (Some m) numbers some = (m, refl)
+    at None (Some numbers) some = (numbers.unless_given, refl)
+    at None None some = absurd (true≢false (sym some))
+
+-- so a line of a command's row names a command
+pub base_taken : (words : List (List ℕ)) → IsTaken base_row words → AreTaken words
+base_taken words (options, plain, line) = let (flips, is) = some_number flips_option options refl in (Base flips, (options, plain, line, is))
+
+-- ---- a line has one spelling
+same_values : (plain other : List ℕ) → map natural_text plain ≡ map natural_text other → plain ≡ other
+same_values [] [] e = refl
+same_values [] (m ∷ other) e = absurd (cc)
+same_values (n ∷ plain) [] e = absurd (cc)
+same_values (n ∷ plain) (m ∷ other) e =
+    let head : natural_text n ≡ natural_text m = cc in
+    let tail : map natural_text plain ≡ map natural_text other = cc in
+    ap₂ (λ (k : ℕ) (ks : List ℕ). k ∷ ks) (natural_text_injective n m head) (same_values plain other tail)
+
+same_line : (row : CommandRow) → IsRow row → (options others : List Given) (plain values : List ℕ) → AllByRecursion (IsGivenOf row.options) options → AllByRecursion (IsGivenOf row.options) others
+    → flat_map given_words options ++ map natural_text plain ≡ flat_map given_words others ++ map natural_text values → (options ≡ others) × (plain ≡ values)
+same_line row is [] [] plain values given also e = (refl, same_values plain values e)
+same_line row is [] (o ∷ others) plain values given also e = absurd (plain_first plain o (flat_map given_words others ++ map natural_text values) (e ∙ append_assoc (given_words o) (flat_map given_words others) (map natural_text values)))
+same_line row is (g ∷ options) [] plain values given also e = absurd (plain_first values g (flat_map given_words options ++ map natural_text plain) (sym e ∙ append_assoc (given_words g) (flat_map given_words options) (map natural_text plain)))
+same_line row is (g ∷ options) (o ∷ others) plain values given also e =
+    let first = one_given row g o (flat_map given_words options ++ map natural_text plain) (flat_map given_words others ++ map natural_text values) is given.0 also.0
+    (sym (append_assoc (given_words g) (flat_map given_words options) (map natural_text plain)) ∙ e ∙ append_assoc (given_words o) (flat_map given_words others) (map natural_text values)) in
+    let rest = same_line row is options others plain values given.1 also.1 first.1 in
+    (ap₂ (λ (x : Given) (xs : List Given). x ∷ xs) first.0 rest.0, rest.1)
+
+one_line : (row : CommandRow) → IsRow row → (words : List (List ℕ)) (options others : List Given) (plain values : List ℕ) → IsLine row options plain words → IsLine row others values words
+    → (options ≡ others) × (plain ≡ values)
+one_line row is words options others plain values line also =
+    let whole : row.word ∷ (flat_map given_words options ++ map natural_text plain) ≡ row.word ∷ (flat_map given_words others ++ map natural_text values) = sym line.spelled ∙ also.spelled in
+    same_line row is options others plain values line.given also.given cc
+
+-- an option has one number in a line
+same_number : (one : OptionRow) (options : List Given) (m n : ℕ) → IsNumberOf one options m → IsNumberOf one options n → m ≡ n
+same_number one options m n h k = at (number_given one.name options) one.numbers h k
+  where
+    at : (given : Option ℕ) (numbers : Option NumberBounds) → MatchOption given (IsSomeAnd numbers (λ numbers. m ≡ numbers.unless_given)) (λ g. m ≡ g)
+        → MatchOption given (IsSomeAnd numbers (λ numbers. n ≡ numbers.unless_given)) (λ g. n ≡ g) → m ≡ n
+    at (Some g) numbers h k = h ∙ sym k
+    at None (Some numbers) h k = h ∙ sym k
+    at None None h k = absurd h
+
+-- ---- words name one command
+base_is : IsRow base_row
+base_is = ((((λ e. cc), letters, (λ e. cc)), tt), (tt, tt))
+  where
+    letters : AllByRecursion (λ byte. ¬ (byte ≡ 61)) (codes "flips")
+    letters = ((λ e. omega arith), ((λ e. omega arith), ((λ e. omega arith), ((λ e. omega arith), ((λ e. omega arith), tt)))))
+
+pub one_command : (words : List (List ℕ)) (one other : Command) → Names words one → Names words other → one ≡ other
+one_command words Check Check h k = refl
+one_command words Check (Base n) (_, _, line, _) (_, _, also, _) = absurd (let e = sym line.spelled ∙ also.spelled in cc)
+one_command words (Base m) Check (_, _, line, _) (_, _, also, _) = absurd (let e = sym line.spelled ∙ also.spelled in cc)
+one_command words (Base m) (Base n) (options, plain, line, is) (others, values, also, so) =
+    let same = one_line base_row base_is words options others plain values line also in
+    ap Base (same_number flips_option options m n is (subst (λ os. IsNumberOf flips_option os n) (sym same.0) so))

@@ -1,0 +1,52 @@
+-- The number of an option, from the matches of a line to the line.
+use Rattle.std.proofs.Common.{◌≡◌, ◌∙◌, ℕ, ◌^◌, ◌<◌, ◌≤◌, Bool, true, false, true≢false, cond, List, [], ◌∷◌, map, Option, Some, None, IsSome, MatchOption, option_map, refl, ap, sym, subst, arith}
+use Rattle.std.specs.Prelude.{IfSome, IsSomeAnd}
+use Rattle.std.specs.List.{AllByRecursion}
+use Rattle.std.specs.Str.{bytes_eq}
+use Rattle.std.proofs.lemmas.Slice.Eq.{bytes_eq-Decides}
+use Rattle.clap.specs.Matches.{first_value}
+use Rattle.clap.specs.declared.parser.matches.Found.{Found}
+use Rattle.plane.specs.Spelling.{natural_text}
+use Rattle.plane.proofs.CallerLemmas.{natural_text_injective}
+use Rattle.command_words.specs.declared.rows.NumberBounds.{NumberBounds}
+use Rattle.command_words.specs.Lines.{OptionRow, CommandRow, Value, nothing, apart, joined, Given, Takes, IsGivenOf, AreDistinct, number_with, number_given}
+use Rattle.command_words.specs.Parsers.{IsOption, HoldsLine}
+use Rattle.command_words.specs.Commands.{IsNumberOf}
+use Rattle.command_words.proofs.FoundLemmas.{takes_of}
+
+-- a number that an option takes lies within its bounds
+taken_number : (numbers : NumberBounds) (value : Value) (n : ℕ) → Takes (Some numbers) value → number_with value ≡ Some n → n ≤ numbers.most
+taken_number numbers nothing n takes e = absurd takes
+taken_number numbers (apart m) n takes e = let same : m ≡ n = cc in omega (arith, same, takes.1)
+taken_number numbers (joined m) n takes e = let same : m ≡ n = cc in omega (arith, same, takes.1)
+
+module _ (row : CommandRow) (distinct : AreDistinct (map (λ o. o.name) row.options)) (one : OptionRow) (among : IsOption row.options one) (numbers : NumberBounds) (is_number : one.numbers ≡ Some numbers) where
+  given_number : (options : List Given) → AllByRecursion (IsGivenOf row.options) options → (n : ℕ) → number_given one.name options ≡ Some n → n ≤ numbers.most
+  given_number [] given n e = absurd (cc)
+  given_number (g ∷ options) given n e = at (bytes_eq g.name one.name) refl e (given_number options given.1 n)
+    where
+      at : (b : Bool) → bytes_eq g.name one.name ≡ b → cond (bytes_eq g.name one.name) (number_with g.value) (number_given one.name options) ≡ Some n
+          → (number_given one.name options ≡ Some n → n ≤ numbers.most) → n ≤ numbers.most
+      at true same e later = taken_number numbers g.value n (subst (λ o. Takes o g.value) is_number (takes_of row.options one g distinct among given.0 ((bytes_eq-Decides g.name one.name).0 same))) (rw same at e)
+      at false same e later = later (rw same at e)
+
+  module _ (options : List Given) (plain : List ℕ) (found : Found) (holds : HoldsLine row options plain found) where
+    held : first_value found one.name ≡ option_map natural_text (number_given one.name options)
+    held = holds.numbers one among (subst IsSome (sym is_number) refl)
+
+    -- the text of an option with a number is a number of 32 bits
+    pub number_held : AllByRecursion (IsGivenOf row.options) options → numbers.most < 2 ^ 32 → IfSome (first_value found one.name) (λ text. (n : ℕ) × (text ≡ natural_text n) × (n < 2 ^ 32))
+    number_held given small = subst (λ o. IfSome o (λ text. (n : ℕ) × (text ≡ natural_text n) × (n < 2 ^ 32))) (sym held) (at (number_given one.name options) (given_number options given))
+      where
+        at : (o : Option ℕ) → ((n : ℕ) → o ≡ Some n → n ≤ numbers.most) → IfSome (option_map natural_text o) (λ text. (n : ℕ) × (text ≡ natural_text n) × (n < 2 ^ 32))
+        at None within = tt
+        at (Some n) within = let most = within n refl in (n, refl, omega (arith, most, small))
+
+    -- and what is read of it is the number of the option
+    pub number_read : (r : ℕ) → MatchOption (first_value found one.name) (IsSomeAnd one.numbers (λ numbers. r ≡ numbers.unless_given)) (λ text. text ≡ natural_text r) → IsNumberOf one options r
+    number_read r h = at (number_given one.name options) (subst (λ o. MatchOption o (IsSomeAnd one.numbers (λ numbers. r ≡ numbers.unless_given)) (λ text. text ≡ natural_text r)) held h)
+      where
+        at : (o : Option ℕ) → MatchOption (option_map natural_text o) (IsSomeAnd one.numbers (λ numbers. r ≡ numbers.unless_given)) (λ text. text ≡ natural_text r)
+            → MatchOption o (IsSomeAnd one.numbers (λ numbers. r ≡ numbers.unless_given)) (λ given. r ≡ given)
+        at None h = h
+        at (Some n) h = natural_text_injective r n (sym h)

@@ -1,0 +1,8 @@
+use Rattle.std.proofs.Common.{subst}
+use Rattle.command_words.specs.Grammar.{base_row}
+use Rattle.command_words.specs.Lines.{IsTaken}
+use Rattle.command_words.proofs.CommandLemmas.{base_taken}
+use Rattle.command_words.proofs.command.read_command.Goals as goal
+
+pub returns-in_err-base-clause-refused : goal.returns-in_err-base-clause-refused
+returns-in_err-base-clause-refused c = λ other. absurd (other (base_taken c.args.words.now (subst (IsTaken base_row) c.as_slice-words.ensures (c.is_line-2.ensures.0 c.if-is_line-2.true))))

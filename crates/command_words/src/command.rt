@@ -1,0 +1,58 @@
+//! The commands, and how words name them.
+
+ghost use Rattle.std.specs.Prelude.{◌≡◌, map, string_bytes, MatchOption, IfOk};
+ghost use Rattle.command_words.specs.Lines.{IsTaken};
+ghost use Rattle.command_words.specs.Grammar.{check_row, base_row};
+ghost use Rattle.command_words.specs.Commands.{Names, AreTaken};
+
+use super::WordList;
+use super::grammar::{BASE, CHECK, FLIPS};
+use super::lines::is_line;
+use super::parsing::parse;
+use super::values::number_of;
+use std::alloc::{AllocError, Global};
+
+/// A command with what its words say.
+#[derive(Debug, PartialEq, Eq, Drop)]
+pub enum Command {
+    /// The counts of the file's triangulation.
+    Check,
+    /// The base of the file's triangulation, reached by at most so many flips.
+    Base { flips: u32 },
+}
+
+/// The command that the words name: none exactly where they aren't in the grammar.
+///
+/// Refuses only where no memory is left, and never words outside the grammar.
+pub fn read_command(alloc: Global, words: &WordList) -> Result<Option<Command>, AllocError>
+    ensures named { IfOk result (λ found. MatchOption found (¬ (AreTaken words.now)) (Names words.now)) }
+    ensures refused { ¬ (AreTaken words.now) → result ≡ Ok None }
+{
+    let words = words.as_slice();
+    if is_line(&CHECK, words) {
+        return Ok(Some(check(alloc, words)?));
+    }
+    if is_line(&BASE, words) {
+        return Ok(Some(base(alloc, words)?));
+    }
+    Ok(None)
+}
+
+/// The command of a line of `check`.
+fn check(alloc: Global, words: &[String]) -> Result<Command, AllocError>
+    requires { IsTaken check_row (map string_bytes words.now) }
+    ensures { IfOk result (Names (map string_bytes words.now)) }
+{
+    let _matches = parse(alloc, &CHECK, words)?;
+    Ok(Command::Check)
+}
+
+/// The command of a line of `base`.
+fn base(alloc: Global, words: &[String]) -> Result<Command, AllocError>
+    requires { IsTaken base_row (map string_bytes words.now) }
+    ensures { IfOk result (Names (map string_bytes words.now)) }
+{
+    let matches = parse(alloc, &BASE, words)?;
+    let flips = number_of(&matches, &FLIPS);
+    Ok(Command::Base { flips })
+}
