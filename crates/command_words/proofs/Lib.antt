@@ -10,3 +10,4 @@ pub mod ReadLemmas
 pub mod FoundLemmas
 pub mod ValueLemmas
 pub mod CommandLemmas
+pub mod CallerLemmas

@@ -5,6 +5,7 @@
 mod command;
 mod fronts;
 mod grammar;
+pub mod laws;
 mod lines;
 mod parsing;
 mod rows;

@@ -13,7 +13,7 @@ use Rattle.quad_field.specs.declared.formula.Formula.{Formula}
 use Rattle.answer_text.specs.declared.status.Status.TheVariants.{Done, NotStrict, FlipsEnded, TooWide}
 use Rattle.answer_text.specs.declared.place.Place.TheVariants.{Flips}
 use Rattle.answer_text.specs.BaseTexts.{half_edges_text}
-use Rattle.veech_cli.specs.declared.command.Command.TheVariants as commands
+use Rattle.command_words.specs.declared.command.Command.TheVariants as commands
 use Rattle.veech_cli.specs.Endings.{or_standard, points_of, status_of_ending, text_of_ending}
 use Rattle.veech_cli.specs.Owed.{Owes}
 use Rattle.veech_cli.specs.Refusals.{status_of_base}

@@ -16,8 +16,8 @@ use Rattle.delaunay_flip.specs.Points.{standard_points}
 use Rattle.delaunay_flip.proofs.Fractions.{within}
 use Rattle.answer_text.specs.declared.status.Status.{Status}
 use Rattle.answer_text.specs.declared.status.Status.TheVariants.{Done, File}
-use Rattle.veech_cli.specs.declared.command.Command.{Command}
-use Rattle.veech_cli.specs.declared.command.Command.TheVariants.{Check, Base}
+use Rattle.command_words.specs.declared.command.Command.{Command}
+use Rattle.command_words.specs.declared.command.Command.TheVariants.{Check, Base}
 use Rattle.veech_cli.specs.SurfaceFiles.{IsTextOf, IsAccepted, IsTriangulationOf, IsRefused, too_long, text_refused, not_glued}
 use Rattle.veech_cli.specs.Endings.{or_standard, points_of, status_of_ending}
 use Rattle.veech_cli.specs.Owed.{Answers, Owes}

@@ -1,4 +1,3 @@
-mod Commanded
 mod Listed
 mod Inputs
 mod Settling

@@ -1,6 +1,6 @@
 -- From what a command owes an input to how a run ends.
 use Rattle.std.proofs.Common.{◌≡◌, ℕ, zero, suc, ◌+◌, ◌<◌, ◌≤◌, ◌⊎◌, inl, inr, refl, List, [], ◌∷◌, length, ap, sym, ◌∙◌, subst, arith, Option, Some, None, Result, Err, ◌↔◌}
-use Rattle.std.specs.Prelude.{IfSome, IsErrOf, Ok, IfErr}
+use Rattle.std.specs.Prelude.{IfSome, IsErrOf, Ok, IfErr, MatchOption}
 use Rattle.io_ends.specs.Ends.{given}
 use Rattle.io_ends.specs.declared.reading.ReadAll.{ReadAll}
 use Rattle.io_ends.specs.declared.reading.ReadAll.TheVariants as read_faults
@@ -13,15 +13,15 @@ use Rattle.answer_text.specs.declared.status.Status.{Status}
 use Rattle.answer_text.specs.declared.status.Status.TheVariants.{Done, Words, File, NotStrict, FlipsEnded, TooWide, ReadFault, WriteFault, Memory}
 use Rattle.answer_text.specs.Statuses.{HasBasePoint}
 use Rattle.answer_text.specs.Lines.{status_line}
-use Rattle.veech_cli.specs.declared.command.Command.{Command}
-use Rattle.veech_cli.specs.declared.command.Command.TheVariants.{Check, Base}
-use Rattle.veech_cli.specs.Commands.{Names, AreTaken}
+use Rattle.command_words.specs.declared.command.Command.{Command}
+use Rattle.command_words.specs.declared.command.Command.TheVariants.{Check, Base}
+use Rattle.command_words.specs.Commands.{Names, AreTaken}
 use Rattle.veech_cli.specs.SurfaceFiles.{IsTextOf, IsAccepted, IsRefused, too_long, not_glued}
 use Rattle.veech_cli.specs.Owed.{Owes}
 use Rattle.veech_cli.specs.Refusals.{status_of_reading, status_of_gluing}
 use Rattle.veech_cli.specs.Runs.{IsFailure, SettlesOn, Settles, IsInput, SomeInput, Delivers, IsReadWhole, SaysNothing}
 use Rattle.veech_cli.specs.Surfaces.{RefusesFile, IsRefusal, IsRefusalOf}
-use Rattle.veech_cli.proofs.Commanded.{names_one}
+use Rattle.command_words.proofs.CallerLemmas.{one_command}
 use Rattle.veech_cli.proofs.Inputs.{one_answer, not_both}
 
 -- what a status is, told by a test; two statuses told apart by it differ
@@ -167,8 +167,8 @@ refusal_comes command left taken after status settled result (input, is, on) (in
 -- refused words
 pub words_come : (words : List (List ℕ)) (left taken after : Option (List ℕ)) (result : Status) → ¬ (AreTaken words) → Delivers Words (status_line Words) result taken after
     → (input : List ℕ) × (status : Status) × (text : List ℕ) × IsInput left input × Settles words input status text × Delivers status text result taken after
-words_come words None taken after result n d = ([], Words, status_line Words, tt, inr (n, refl, refl), d)
-words_come words (Some bytes) taken after result n d = (bytes, Words, status_line Words, refl, inr (n, refl, refl), d)
+words_come words None taken after result n d = ([], Words, status_line Words, tt, inr (inr (n, refl, refl)), d)
+words_come words (Some bytes) taken after result n d = (bytes, Words, status_line Words, refl, inr (inr (n, refl, refl)), d)
 
 pub words_whole : {P : Type 0} (text : List ℕ) (result : Status) (taken after : Option (List ℕ)) → Delivers Words text result taken after → SaysNothing result ⊎ P
 words_whole text result taken after (inl d) = inl (inl d.0)
@@ -207,11 +207,43 @@ module _ (result : Status) (taken after : Option (List ℕ)) (read_rose write_ro
       done file taken_as (inl refused) = absurd (not_both bytes file refused.0 refused.1 taken_as refused.2)
       done file taken_as (inr answer) = answer.4.4
 
+-- what is known of the command that was found, or that there is none
+pub found_named : (words : List (List ℕ)) (found : Option Command) (command : Command) → found ≡ Some command → MatchOption found (¬ (AreTaken words)) (Names words) → Names words command
+found_named words found command e h = subst (λ o. MatchOption o (¬ (AreTaken words)) (Names words)) e h
+
+pub none_taken : (words : List (List ℕ)) (found : Option Command) → found ≡ None → MatchOption found (¬ (AreTaken words)) (Names words) → ¬ (AreTaken words)
+none_taken words found e h = subst (λ o. MatchOption o (¬ (AreTaken words)) (Names words)) e h
+
 -- words name one command
 pub same_command : (words : List (List ℕ)) (left taken after : Option (List ℕ)) (result : Status) (found command : Command) → Names words found → Names words command
     → ComesOut found left result taken after → ComesOut command left result taken after
-same_command words left taken after result found command a b comes = subst (λ c. ComesOut c left result taken after) (names_one words found command a b) comes
+same_command words left taken after result found command a b comes = subst (λ c. ComesOut c left result taken after) (one_command words found command a b) comes
 
 pub named : (words : List (List ℕ)) (command : Command) (left taken after : Option (List ℕ)) (result : Status) → Names words command → ComesOut command left result taken after
     → (input : List ℕ) × (status : Status) × (text : List ℕ) × IsInput left input × Settles words input status text × Delivers status text result taken after
-named words command left taken after result names (input, status, text, is, on, d) = (input, status, text, is, inl (command, names, on), d)
+named words command left taken after result names (input, status, text, is, inl owed, d) = (input, status, text, is, inl (command, names, owed), d)
+named words command left taken after result names (input, status, text, is, inr failed, d) = (input, status, text, is, inr (inl failed), d)
+
+-- no memory to read the words
+pub memory_comes : (words : List (List ℕ)) (left taken after : Option (List ℕ)) (result : Status) → Delivers Memory (status_line Memory) result taken after
+    → (input : List ℕ) × (status : Status) × (text : List ℕ) × IsInput left input × Settles words input status text × Delivers status text result taken after
+memory_comes words None taken after result d = ([], Memory, status_line Memory, tt, inr (inl (inr refl, refl)), d)
+memory_comes words (Some bytes) taken after result d = (bytes, Memory, status_line Memory, refl, inr (inl (inr refl, refl)), d)
+
+pub memory_whole : {P : Type 0} (text : List ℕ) (result : Status) (taken after : Option (List ℕ)) → Delivers Memory text result taken after → SaysNothing result ⊎ P
+memory_whole text result taken after (inl d) = inl (inr (inr (inr d.0)))
+memory_whole text result taken after (inr d) = inl (inr (inr (inl d.0)))
+
+-- which is an answer, where no end failed
+pub memory_answers : (result : Status) (text : List ℕ) (taken after : Option (List ℕ)) (write_rose : Type 0) → Delivers Memory text result taken after → (result ≡ WriteFault → write_rose) → ¬ write_rose → result ≡ Memory
+memory_answers result text taken after write_rose (inl d) write quiet = d.0
+memory_answers result text taken after write_rose (inr d) write quiet = absurd (quiet (write d.0))
+
+pub any_complete : (left : Option (List ℕ)) (command : Command) (result : Status) → result ≡ Memory
+    → IfSome left (λ input. (status : Status) (text : List ℕ) → Owes command input status text → (result ≡ status) ⊎ (result ≡ Memory))
+any_complete None command result e = tt
+any_complete (Some bytes) command result e = λ status text owes. inr e
+
+pub any_accepted : (left : Option (List ℕ)) (result : Status) → result ≡ Memory → IfSome left (λ input. (file : Content) → IsAccepted input file → (result ≡ Done) ⊎ (result ≡ Memory))
+any_accepted None result e = tt
+any_accepted (Some bytes) result e = λ file taken_as. inr e

@@ -1,4 +1,3 @@
-pub mod Commands
 pub mod SurfaceFiles
 pub mod Endings
 pub mod Owed

@@ -10,8 +10,8 @@ use Rattle.answer_text.specs.declared.status.Status.{Status}
 use Rattle.answer_text.specs.declared.status.Status.TheVariants.{Done, File}
 use Rattle.answer_text.specs.Lines.{status_line}
 use Rattle.answer_text.specs.CheckTexts.{counts_text}
-use Rattle.veech_cli.specs.declared.command.Command.{Command}
-use Rattle.veech_cli.specs.declared.command.Command.TheVariants.{Check, Base}
+use Rattle.command_words.specs.declared.command.Command.{Command}
+use Rattle.command_words.specs.declared.command.Command.TheVariants.{Check, Base}
 use Rattle.veech_cli.specs.SurfaceFiles.{IsAccepted, IsTriangulationOf, IsRefused}
 use Rattle.veech_cli.specs.Endings.{points_of, status_of_ending, text_of_ending}
 

@@ -6,8 +6,8 @@ use Rattle.io_ends.specs.Ends.{given, taken_after}
 use Rattle.answer_text.specs.declared.status.Status.{Status}
 use Rattle.answer_text.specs.declared.status.Status.TheVariants.{Words, ReadFault, WriteFault, Memory}
 use Rattle.answer_text.specs.Lines.{status_line}
-use Rattle.veech_cli.specs.declared.command.Command.{Command}
-use Rattle.veech_cli.specs.Commands.{Names, AreTaken}
+use Rattle.command_words.specs.declared.command.Command.{Command}
+use Rattle.command_words.specs.Commands.{Names, AreTaken}
 use Rattle.veech_cli.specs.Owed.{Owes}
 
 -- the input couldn't be had, or no answer to it: the source failed, or memory ran out
@@ -18,10 +18,11 @@ IsFailure status = (status ≡ ReadFault) ⊎ (status ≡ Memory)
 abbrev pub SettlesOn : Command → List ℕ → Status → List ℕ → Type 0
 SettlesOn command input status text = Owes command input status text ⊎ (IsFailure status × (text ≡ status_line status))
 
--- what a run of any words settles on: what that of the command does that they name, or that they name none
+-- what a run of any words settles on: what the command owes the input that they name, a failure with its line, or that they name none
 abbrev pub Settles : List (List ℕ) → List ℕ → Status → List ℕ → Type 0
 Settles words input status text =
-    ((command : Command) × Names words command × SettlesOn command input status text)
+    ((command : Command) × Names words command × Owes command input status text)
+    ⊎ (IsFailure status × (text ≡ status_line status))
     ⊎ (¬ (AreTaken words) × (status ≡ Words) × (text ≡ status_line Words))
 
 -- the input is what the source had left, where it tells it

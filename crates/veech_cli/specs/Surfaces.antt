@@ -8,7 +8,7 @@ use Rattle.answer_text.specs.declared.status.Status.{Status}
 use Rattle.answer_text.specs.declared.status.Status.TheVariants.{Done, File, Words, WriteFault, Memory}
 use Rattle.answer_text.specs.Statuses.{HasBasePoint}
 use Rattle.answer_text.specs.Lines.{status_line}
-use Rattle.veech_cli.specs.declared.command.Command.{Command}
+use Rattle.command_words.specs.declared.command.Command.{Command}
 use Rattle.veech_cli.specs.SurfaceFiles.{IsAccepted, IsTriangulationOf, IsRefused}
 use Rattle.veech_cli.specs.Owed.{Owes}
 

@@ -6,7 +6,7 @@ ghost use Rattle.surface_text.specs.Limits.{IsBasePoint};
 ghost use Rattle.delaunay_flip.specs.Bases.{EndsListed};
 ghost use Rattle.delaunay_flip.specs.Answers.{IsRight};
 ghost use Rattle.answer_text.specs.declared.status.Status.TheVariants.{Done};
-ghost use Rattle.veech_cli.specs.declared.command.Command.TheVariants.{Base as BaseCommand};
+ghost use Rattle.command_words.specs.declared.command.Command.TheVariants.{Base as BaseCommand};
 ghost use Rattle.veech_cli.specs.Endings.{or_standard};
 ghost use Rattle.veech_cli.specs.Owed.{Owes};
 ghost use Rattle.veech_cli.specs.Surfaces.{IsRefusalOf};

@@ -2,7 +2,7 @@
 
 ghost use Rattle.std.specs.Prelude.{◌≤◌, length, IfOk, IfErr};
 ghost use Rattle.answer_text.specs.declared.status.Status.TheVariants.{Done};
-ghost use Rattle.veech_cli.specs.declared.command.Command.TheVariants.{Check};
+ghost use Rattle.command_words.specs.declared.command.Command.TheVariants.{Check};
 ghost use Rattle.veech_cli.specs.Owed.{Owes};
 ghost use Rattle.veech_cli.specs.Surfaces.{IsRefusalOf};
 

@@ -4,7 +4,7 @@
 ghost use Rattle.std.specs.Prelude.{◌≡◌, ℕ, List};
 ghost use Rattle.surface_text.specs.Spelling.{Content};
 ghost use Rattle.answer_text.specs.declared.status.Status.{Status};
-ghost use Rattle.veech_cli.specs.declared.command.Command.{Command};
+ghost use Rattle.command_words.specs.declared.command.Command.{Command};
 ghost use Rattle.veech_cli.specs.SurfaceFiles.{IsAccepted, IsRefused};
 ghost use Rattle.veech_cli.specs.Owed.{Owes};
 

@@ -3,16 +3,14 @@
 
 mod base;
 mod check;
-mod command;
 pub mod laws;
 mod refusal;
 mod run;
 mod surface;
-mod words;
 
 pub use answer_text::{Place, Status, status_number};
+pub use command_words::WordList;
 pub use run::run_plain;
-pub use words::WordList;
 
 #[cfg(test)]
 mod tests;

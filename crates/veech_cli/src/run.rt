@@ -7,8 +7,8 @@ ghost use Rattle.surface_text.specs.Spelling.{Content};
 ghost use Rattle.answer_text.specs.declared.status.Status.{Status as Answer};
 ghost use Rattle.answer_text.specs.declared.status.Status.TheVariants.{Done, ReadFault};
 ghost use Rattle.answer_text.specs.Lines.{status_line};
-ghost use Rattle.veech_cli.specs.declared.command.Command.{Command as CommandValue};
-ghost use Rattle.veech_cli.specs.Commands.{Names, AreTaken};
+ghost use Rattle.command_words.specs.declared.command.Command.{Command as CommandValue};
+ghost use Rattle.command_words.specs.Commands.{Names, AreTaken};
 ghost use Rattle.veech_cli.specs.SurfaceFiles.{IsAccepted};
 ghost use Rattle.veech_cli.specs.Owed.{Owes};
 ghost use Rattle.veech_cli.specs.Runs.{SettlesOn, Settles, Delivers, IsInput, SomeInput, IsReadWhole, SaysNothing};
@@ -16,10 +16,10 @@ ghost use Rattle.veech_cli.specs.Surfaces.{IsRefusal, IsRefusalOf};
 
 use super::base::base;
 use super::check::check;
-use super::command::{Command, command_of};
 use super::refusal::Refusal;
 use super::{Status, WordList};
 use answer_text::fault_line;
+use command_words::{Command, read_command};
 use io_ends::{Sink, Source, WriteFault, read_all, write_all};
 use std::alloc::{AllocError, Global};
 
@@ -74,9 +74,10 @@ pub fn run_plain<S: Source, K: Sink>(
     ensures source_never_falls { S.faults source.old ≤ S.faults source.new }
     ensures sink_never_falls { K.faults sink.old ≤ K.faults sink.new }
 {
-    match command_of(words) {
-        Some(command) => answer(alloc, command, source, sink),
-        None => deliver(sink, Status::Words, b"fault words\n"),
+    match read_command(alloc, words) {
+        Ok(Some(command)) => answer(alloc, command, source, sink),
+        Ok(None) => deliver(sink, Status::Words, b"fault words\n"),
+        Err(AllocError) => deliver(sink, Status::Memory, b"fault memory\n"),
     }
 }
 
