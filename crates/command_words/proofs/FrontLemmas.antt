@@ -69,8 +69,7 @@ module _ (option : OptionRow) (first tail : List ℕ) (others words : List (List
       let whole : words ≡ words_with option.name value ++ rest = front ∙ ap (λ w. w ∷ others) named ∙ spelled option.name tail others rest value behind in
       let counted : length words ≡ length (words_with option.name value) + length rest = ap length whole ∙ length-append (words_with option.name value) rest in
       let counts : length words ≡ suc (length others) = ap length front in
-      let same : n ≡ length (words_with option.name value) = omega (arith, counted, counts, count) in
-      (
+      let same : n ≡ length (words_with option.name value) = omega (arith, counted, counts, count) in (
         record { name = option.name; value = value },
         (refl, takes),
         whole ∙ ap (λ r. words_with option.name value ++ r) (sym (ap (λ k. drop k words) same ∙ rest_behind option.name value rest words whole)),

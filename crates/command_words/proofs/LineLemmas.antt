@@ -94,12 +94,11 @@ module _ (row : CommandRow) (words : List (List ℕ)) where
           let (given, (h, named), e, count) = first in
           let unnamed = not_among row name (subst IsName named (is_name row.options given is.0 h)) options (λ k. new (subst (IsNamed name) (sym b.spelled) k)) in
           let pushed : flat_map given_words (options ++ given ∷ []) ≡ flat_map given_words options ++ given_words given =
-          flat_map-append given_words options (given ∷ []) ∙ ap (λ t. flat_map given_words options ++ t) (append-nil (given_words given)) in
-          (
+          flat_map-append given_words options (given ∷ []) ∙ ap (λ t. flat_map given_words options ++ t) (append-nil (given_words given)) in (
             options ++ given ∷ [],
             record {
               spelled = take-add at n words ∙ ap (λ front. front ++ take n (drop at words)) b.spelled
-              ∙ ap (λ end. flat_map given_words options ++ end) (ap (take n) e ∙ take_at (given_words given) (drop n (drop at words)) n (sym count)) ∙ sym pushed;
+                  ∙ ap (λ end. flat_map given_words options ++ end) (ap (take n) e ∙ take_at (given_words given) (drop n (drop at words)) n (sym count)) ∙ sym pushed;
               given = all_more (IsGivenOf row.options) options given b.given h;
               once = subst AreDistinct (sym (map-append (λ (g : Given). g.name) options (given ∷ []))) (distinct_more (names_of options) given.name b.once (subst (λ name. AllByRecursion (λ other. ¬ (name ≡ other)) (names_of options)) (sym named) unnamed));
               only = λ all plain line. let (more, same) = next is given (drop n (drop at words)) h e all plain line in (more, same ∙ sym (append_assoc options (given ∷ []) more));

@@ -173,26 +173,24 @@ module _ (row : CommandRow) (is : IsRow row) where
       let one : OptionRow = record { name = byte ∷ bytes; numbers = None } in
       let rule = full_option one in
       let long = long_alone byte bytes called.1 in
-      let found = by_long row is one among in
-      (
+      let found = by_long row is one among in (
         reacted rules rule [] h,
         used_held one among rows absent h holds None nothing takes,
         one_word row.word rules (45 ∷ 45 ∷ byte ∷ bytes) idle idle h (reacted rules rule [] h) (named_step row.word rules byte bytes h (byte ∷ bytes) None rule long found)
-        (named_turn row.word rules byte bytes h (byte ∷ bytes) None rule long found ∙ ap (λ b. b && true) (use_turn one among rows absent h holds None nothing takes)),
+            (named_turn row.word rules byte bytes h (byte ∷ bytes) None rule long found ∙ ap (λ b. b && true) (use_turn one among rows absent h holds None nothing takes)),
       )
   given_words_pass (byte ∷ bytes) (Some numbers) (joined n) among called takes rows absent h holds =
       let one : OptionRow = record { name = byte ∷ bytes; numbers = Some numbers } in
       let rule = full_option one in
       let text = natural_text n in
       let long = long_valued byte bytes text called.1 in
-      let found = by_long row is one among in
-      (
+      let found = by_long row is one among in (
         reacted rules rule (text ∷ []) h,
         used_held one among rows absent h holds (Some numbers) (joined n) takes,
         subst (λ ws. PassesOver row.word rules ws idle idle h (reacted rules rule (text ∷ []) h)) (sym (opened (byte ∷ bytes) (joined n)))
-        (one_word row.word rules (45 ∷ 45 ∷ byte ∷ (bytes ++ 61 ∷ text)) idle idle h (reacted rules rule (text ∷ []) h)
-        (named_step row.word rules byte (bytes ++ 61 ∷ text) h (byte ∷ bytes) (Some text) rule long found)
-        (named_turn row.word rules byte (bytes ++ 61 ∷ text) h (byte ∷ bytes) (Some text) rule long found ∙ ap (λ b. b && true) (use_turn one among rows absent h holds (Some numbers) (joined n) takes))),
+            (one_word row.word rules (45 ∷ 45 ∷ byte ∷ (bytes ++ 61 ∷ text)) idle idle h (reacted rules rule (text ∷ []) h)
+            (named_step row.word rules byte (bytes ++ 61 ∷ text) h (byte ∷ bytes) (Some text) rule long found)
+            (named_turn row.word rules byte (bytes ++ 61 ∷ text) h (byte ∷ bytes) (Some text) rule long found ∙ ap (λ b. b && true) (use_turn one among rows absent h holds (Some numbers) (joined n) takes))),
       )
   given_words_pass (byte ∷ bytes) (Some numbers) (apart n) among called takes rows absent h holds =
       let name = byte ∷ bytes in
@@ -202,14 +200,13 @@ module _ (row : CommandRow) (is : IsRow row) where
       let found = by_long row is one among in
       let (first, others, spelled, other) = number_word n in
       let between : Held = record (settled rules h) { pending = Some (name, []) } in
-      let later : Held = record (settled rules h) { pending = Some (name, natural_text n ∷ []) } in
-      (
+      let later : Held = record (settled rules h) { pending = Some (name, natural_text n ∷ []) } in (
         later,
         pending_held one among rows absent h holds numbers n refl takes,
         both_words row.word rules ((45 ∷ 45 ∷ byte ∷ bytes) ∷ []) (natural_text n ∷ []) idle (option name) idle h between later
-        (one_word row.word rules (45 ∷ 45 ∷ byte ∷ bytes) idle (option name) h between (named_step row.word rules byte bytes h name None rule long found)
-        (named_turn row.word rules byte bytes h name None rule long found ∙ ap (λ b. b && true) holds.passes))
-        (number_step name numbers (natural_text n) first others between spelled other (by_id row is one among) refl),
+            (one_word row.word rules (45 ∷ 45 ∷ byte ∷ bytes) idle (option name) h between (named_step row.word rules byte bytes h name None rule long found)
+            (named_turn row.word rules byte bytes h name None rule long found ∙ ap (λ b. b && true) holds.passes))
+            (number_step name numbers (natural_text n) first others between spelled other (by_id row is one among) refl),
       )
 
   -- ---- all options that are given
@@ -287,7 +284,7 @@ module _ (row : CommandRow) (is : IsRow row) where
           later,
           subst (λ ts. Holds rules (rows ++ row_values ts ∷ []) later) (append_assoc texts (text ∷ []) (map natural_text plain)) at_last,
           both_words row.word rules (text ∷ []) (map natural_text plain) positional positional positional h between later
-          (value_word positional n (rows ++ row_values texts ∷ []) h (λ _. refl) holds) others,
+              (value_word positional n (rows ++ row_values texts ∷ []) h (λ _. refl) holds) others,
         )
 
   -- the row of the plain values, where there are any

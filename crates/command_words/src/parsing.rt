@@ -20,7 +20,11 @@ const VALUES: &str = "values";
 /// The matches that clap gives a line of this row.
 ///
 /// Refuses only where no memory is left.
-pub(crate) fn parse<'a>(alloc: Global, row: &CommandRow, words: &'a [String]) -> Result<ArgMatches<'a>, AllocError>
+pub(crate) fn parse<'a>(
+    alloc: Global,
+    row: &CommandRow,
+    words: &'a [String],
+) -> Result<ArgMatches<'a>, AllocError>
     requires row { IsRow (row_of row.now) }
     requires line { IsTaken (row_of row.now) (map string_bytes words.now) }
     ensures { IfOk result (λ matches. (options : List Given) (plain : List ℕ) → IsLine (row_of row.now) options plain (map string_bytes words.entry.now)

@@ -40,7 +40,7 @@ module _ (input : List ℕ) (flips : ℕ) (bases : List Point) (tri : Triangulat
   ends_for : (at : Point) (ending : Ending) → Ends at ending → EndsListed made.0.field tri.halves (points_of made.0) flips at ending
   ends_for at ending ends =
       subst (λ d. EndsListed d tri.halves (or_standard made.0.bases) flips at ending) made.3
-          (subst (λ points. EndsListed tri.field tri.halves (or_standard points) flips at ending) made.2 ends)
+      (subst (λ points. EndsListed tri.field tri.halves (or_standard points) flips at ending) made.2 ends)
 
   -- so what is answered then is owed to the input
   owed : (at : Point) (ending : Ending) → Ends at ending → Owes (commands.Base flips) input (status_of_ending at ending) (text_of_ending at ending)

@@ -1,13 +1,14 @@
 -- An input is accepted as one file, or refused for one cause in one line, never both; and a command owes it one status.
 use Rattle.std.proofs.Common.{◌≡◌, ℕ, ◌≤◌, inl, inr, refl, List, [], ◌∷◌, length, ap, sym, ◌∙◌, subst, arith}
 use Rattle.std.specs.List.{AllByRecursion}
+use Rattle.std.specs.Prelude.{◌<◌, ◌⊎◌}
+use Rattle.std.proofs.lemmas.Bool.{cases_order}
 use Rattle.surface_text.specs.Spelling.{Content, text}
 use Rattle.surface_text.specs.Limits.{IsBasePoint}
 use Rattle.surface_text.specs.declared.file.Point.{Point}
-use Rattle.surface_text.proofs.Outcomes.{text_not_refused}
-use Rattle.surface_text.proofs.Verdicts.{refused_once, text_injective}
+use Rattle.surface_text.proofs.CallerLemmas as texts
 use Rattle.tri_core.specs.declared.half.Half.{Half}
-use Rattle.gluing.specs.Gluings.{gluing_of}
+use Rattle.gluing.specs.Gluings.{IsGluing, gluing_of}
 use Rattle.gluing.specs.Refusals.{IsRefused as IsGluingRefused}
 use Rattle.gluing.proofs.CallerLemmas as gluing
 use Rattle.ear_cut.specs.Cuttings.{IsEarCutting}
@@ -25,14 +26,14 @@ use Rattle.veech_cli.proofs.Listed.{one_listed}
 
 -- two files with one text
 one_text : (input : List ℕ) (file other : Content) → IsTextOf input file → IsTextOf input other → file ≡ other
-one_text input file other a b = text_injective file other (sym a.spelled ∙ b.spelled)
+one_text input file other a b = texts.one_file file other (sym a.spelled ∙ b.spelled)
 
 pub one_file : (input : List ℕ) (file other : Content) → IsAccepted input file → IsAccepted input other → file ≡ other
 one_file input file other a b = one_text input file other a.text_of b.text_of
 
 pub not_both : (input : List ℕ) (file : Content) (cause line : ℕ) → IsAccepted input file → ¬ (IsRefused input cause line)
 not_both input file cause line a (too_long long _ _) = omega (arith, a.text_of.short, long)
-not_both input file cause line a (text_refused _ h) = text_not_refused input file cause line (a.text_of.spelled, a.text_of.limits) h
+not_both input file cause line a (text_refused _ h) = texts.not_both input file cause line (a.text_of.spelled, a.text_of.limits) h
 not_both input file cause line a (not_glued other t h) =
     gluing.not_both file cause line a.glued (subst (λ f. IsGluingRefused f cause line) (one_text input other file t a.text_of) h)
 
@@ -41,12 +42,28 @@ one_refusal input cause other line place (too_long _ c l) (too_long _ k m) = (c 
 one_refusal input cause other line place (too_long long _ _) (text_refused short _) = absurd (omega (arith, long, short))
 one_refusal input cause other line place (too_long long _ _) (not_glued file t _) = absurd (omega (arith, long, t.short))
 one_refusal input cause other line place (text_refused short _) (too_long long _ _) = absurd (omega (arith, long, short))
-one_refusal input cause other line place (text_refused _ a) (text_refused _ b) = refused_once input cause other line place a b
-one_refusal input cause other line place (text_refused _ a) (not_glued file t _) = absurd (text_not_refused input file cause line (t.spelled, t.limits) a)
+one_refusal input cause other line place (text_refused _ a) (text_refused _ b) = texts.one_refusal input cause other line place a b
+one_refusal input cause other line place (text_refused _ a) (not_glued file t _) = absurd (texts.not_both input file cause line (t.spelled, t.limits) a)
 one_refusal input cause other line place (not_glued file t _) (too_long long _ _) = absurd (omega (arith, long, t.short))
-one_refusal input cause other line place (not_glued file t _) (text_refused _ b) = absurd (text_not_refused input file other place (t.spelled, t.limits) b)
+one_refusal input cause other line place (not_glued file t _) (text_refused _ b) = absurd (texts.not_both input file other place (t.spelled, t.limits) b)
 one_refusal input cause other line place (not_glued file t a) (not_glued next u b) =
     gluing.one_refusal next cause other line place (subst (λ f. IsGluingRefused f cause line) (one_text input file next t u) a) b
+
+-- no input is neither accepted nor refused
+pub not_neither : (input : List ℕ) → ((file : Content) → ¬ (IsAccepted input file)) → ((cause line : ℕ) → ¬ (IsRefused input cause line)) → ⊥
+not_neither input no_file no_refusal = elim (either (length input)) [
+  | inl short ↦ texts.neither input short
+      (λ file is. glued_or_not file (record { short = short; spelled = is.0; limits = is.1 }) (gluing.glued_or_refused file is.1))
+      (λ cause line refused. no_refusal cause line (text_refused short refused))
+  | inr long ↦ no_refusal 0 0 (too_long long refl refl)
+]
+  where
+    either : (n : ℕ) → (n ≤ 1048576) ⊎ (1048576 < n)
+    either n = elim (cases_order n 1048576) [ inl same ↦ inl (omega arith) | inr other ↦ elim other [ inl less ↦ inl (omega arith) | inr more ↦ inr more ] ]
+
+    glued_or_not : (file : Content) → IsTextOf input file → IsGluing (gluing_of file) ⊎ ((cause : ℕ) × (line : ℕ) × IsGluingRefused file cause line) → ⊥
+    glued_or_not file is (inl glued) = no_file file (record { text_of = is; glued = glued })
+    glued_or_not file is (inr refused) = no_refusal refused.0 refused.1 (not_glued file is refused.2)
 
 -- the standard points are base points
 standard_within : AllByRecursion IsBasePoint standard_points

@@ -23,6 +23,11 @@ pub fn not_both()
     ensures { (input : List ℕ) (file : Content) (cause line : ℕ) → IsAccepted input file → ¬ (IsRefused input cause line) }
 {}
 
+/// There is no input that is neither accepted nor refused.
+pub fn not_neither()
+    ensures { (input : List ℕ) → ((file : Content) → ¬ (IsAccepted input file)) → ((cause line : ℕ) → ¬ (IsRefused input cause line)) → ⊥ }
+{}
+
 /// A command owes an input one status.
 pub fn one_answer()
     ensures { (command : Command) (input : List ℕ) (status other : Status) (text line : List ℕ) → Owes command input status text → Owes command input other line → status ≡ other }

@@ -22,9 +22,9 @@ loop-front-preserved c =
     let words = map string_bytes c.args.words.now in
     let first = subst (λ ws. GivesFirst (λ (given : Given). IsGivenOf row.options given × (given.name ≡ c.in-Some.front.name.now)) ws c.in-Some.front.words) (bytes_behind c.args.words.now c.loop-front.at) c.in-Some.ensures in (
       (let counts = front_counts (λ (given : Given). IsGivenOf row.options given × (given.name ≡ c.in-Some.front.name.now)) (drop c.loop-front.at words) c.in-Some.front.words first in
-      omega (arith, counts.1, length-drop c.loop-front.at words, length-map c.args.words.now string_bytes)),
+          omega (arith, counts.1, length-drop c.loop-front.at words, length-map c.args.words.now string_bytes)),
       begins_more row words c.loop-front.at c.loop-front.invariant.1.0 c.loop-front.invariant.1.1 c.requires c.in-Some.front.words c.in-Some.front.name.now first
-      (λ again. absurd (true≢false (sym (c.is_named.ensures.1 (subst (IsNamed c.in-Some.front.name.now) (sym (bytes_before c.args.words.now c.loop-front.at)) again)) ∙ c.if-is_named.false))),
+          (λ again. absurd (true≢false (sym (c.is_named.ensures.1 (subst (IsNamed c.in-Some.front.name.now) (sym (bytes_before c.args.words.now c.loop-front.at)) again)) ∙ c.if-is_named.false))),
     )
 
 pub returns : goal.returns
