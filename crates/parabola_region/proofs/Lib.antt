@@ -1,0 +1,9 @@
+pub mod Signs
+pub mod Meetings
+pub mod Starts
+pub mod Stretches
+pub mod Lists
+pub mod HingeLists
+pub mod Lines
+pub mod WallLists
+pub mod Owns

@@ -1,0 +1,1 @@
+//! Walls of small triangulations.
