@@ -7,3 +7,9 @@ pub mod HingeLists
 pub mod Lines
 pub mod WallLists
 pub mod Owns
+pub mod Spots
+pub mod Turned
+pub mod WallPairs
+pub mod CornerPoints
+pub mod CornerLists
+pub mod CornerPairs

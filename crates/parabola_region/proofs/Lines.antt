@@ -1,5 +1,5 @@
 -- The lines of the hinges of a list, and the walls of the triangulation.
-use Rattle.std.proofs.Common.{◌≡◌, ◌↔◌, ℕ, ◌<◌, List, length, subst, sym, ap, ◌∙◌, arith}
+use Rattle.std.proofs.Common.{◌≡◌, ◌↔◌, ℕ, ◌<◌, List, length, subst, sym, arith}
 use mathlib.Core.Logic.{inl, inr}
 use Rattle.std.specs.Prelude.{pos, ◌⊎◌}
 use Rattle.rings.specs.Lines.{HasPositiveFactor}

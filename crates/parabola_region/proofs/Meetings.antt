@@ -1,7 +1,6 @@
 -- Where a form vanishes on a line.
-use Rattle.std.proofs.Common.{◌≡◌, ℕ, [], Bool, true, false, subst, sym, refl, ap, ◌∙◌}
+use Rattle.std.proofs.Common.{◌≡◌, ℕ, Bool, true, false, subst, sym, refl, ap, ◌∙◌}
 use Rattle.std.specs.Prelude.{pos, Option, Some, None, MatchOption}
-use Rattle.rings.specs.Ring.{expr}
 use Rattle.rings.specs.Forms.{value_at}
 use Rattle.rings.specs.Lines.{crossing_point, IsOn, HasPositiveFactor}
 use Rattle.rings.specs.Bounds.{rate, IsBound}

@@ -6,10 +6,8 @@ use mathlib.Core.Bool.{beq, not}
 use Rattle.rings.specs.Ring.{var, expr}
 use Rattle.rings.proofs.Solver.{identity}
 use Rattle.rings.proofs.Ordered.{product_of_negatives, product_negative}
-use Rattle.rings.proofs.Signs.{minus_zero}
 use Rattle.quad_field.specs.declared.quad.Quad.{Quad}
 use Rattle.quad_field.specs.declared.quad.Sign.{Sign}
-use Rattle.quad_field.specs.declared.quad.Sign.TheVariants.{Minus, Zero, Plus}
 use Rattle.quad_field.specs.FieldNumber.{IsFieldNumber}
 use Rattle.quad_field.specs.Quads.{quad_ops, IsPositive, IsZero, IsSign}
 use Rattle.quad_field.proofs.CallerLemmas.{quad_ring, order_of, zero_is, is_zero_from}

@@ -1,6 +1,6 @@
 -- Serves clauses of private functions alone: the list of the hinges whose lines have a chord.
-use Rattle.std.specs.Prelude.{◌≡◌, ℕ, pos, ◌<◌, ◌⊎◌, List, length, slice_index_or, Option, Some, None}
-use Rattle.quad_field.specs.Quads.{quad, IsPositive}
+use Rattle.std.specs.Prelude.{◌≡◌, ℕ, ◌<◌, ◌⊎◌, List, length, slice_index_or, Option, Some, None}
+use Rattle.quad_field.specs.Quads.{IsPositive}
 use Rattle.tri_core.specs.declared.half.Half.{Half}
 use Rattle.tri_core.specs.Flips.{IsEdge}
 use Rattle.hinge_form.specs.Triples.{Triple, of_form, zeros}

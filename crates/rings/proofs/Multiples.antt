@@ -81,6 +81,12 @@ module _ {R : Type 0} (O : Ops R) (L : IsRing O) where
       one : (a : R) → minus (minus a) ≡ a
       one a = identity O L (a ∷ []) (neg' (neg' (var 0))) (var 0) tt
 
+  pub opposite_of_multiple : (m : R) (l : Triple R) → opposite_triple O (multiple O m l) ≡ multiple O m (opposite_triple O l)
+  opposite_of_multiple m l = triples_equal _ _ (one l.0) (one l.1) (one l.2)
+    where
+      one : (a : R) → minus (m ⊗ a) ≡ m ⊗ minus a
+      one a = identity O L (m ∷ a ∷ []) (neg' (var 0 *' var 1)) (var 0 *' neg' (var 1)) tt
+
   pub inner_of_opposite : (q : Triple R) → inner_value O (opposite_triple O q) ≡ inner_value O q
   inner_of_opposite q = identity O L (q.0 ∷ q.1 ∷ q.2 ∷ []) (inner_value expr (opposite_triple expr (var 0, var 1, var 2))) (inner_value expr (var 0, var 1, var 2)) tt
 
