@@ -1,5 +1,5 @@
 -- The texts of whole numbers and of multiples of √D, and what is read from them.
-use Rattle.std.proofs.Common.{◌≡◌, ◌≢◌, ℕ, zero, suc, ◌+◌, ◌-◌, ◌^◌, ◌<◌, ◌≤◌, ℤ, pos, negsuc, List, [], ◌∷◌, ◌++◌, length, get_or, take, drop, refl, ap, sym, ◌∙◌, subst, inl, inr, arith}
+use Rattle.std.proofs.Common.{◌≡◌, ◌≢◌, ◌↔◌, ℕ, zero, suc, ◌+◌, ◌-◌, ◌^◌, ◌<◌, ◌≤◌, ℤ, pos, negsuc, List, [], ◌∷◌, ◌++◌, length, get_or, take, drop, refl, ap, sym, ◌∙◌, subst, inl, inr, arith}
 use Rattle.std.specs.Int.{IsInRange}
 use Rattle.std.specs.Fmt.{signed_decimal}
 use Rattle.std.proofs.lemmas.List.{take_more, take_all, append_cancel_right}
@@ -163,6 +163,31 @@ whole_injective (pos m) (pos n) e = ap pos (natural_text_injective m n e)
 whole_injective (pos m) (negsuc n) e = let digit = natural_first m 45 (natural_text (suc n)) (sym e) in absurd (omega arith)
 whole_injective (negsuc m) (pos n) e = let digit = natural_first n 45 (natural_text (suc m)) e in absurd (omega arith)
 whole_injective (negsuc m) (negsuc n) e = let same = natural_text_injective (suc m) (suc n) (ap (drop 1) e) in cc
+
+-- a reading says which whole number the word spells
+pub whole_value : (word : List ℕ) (r : WholeWord) → IsWholeRead (λ n. word ≡ whole_text n) r → (n : ℤ) → (r ≡ Value n) ↔ ((word ≡ whole_text n) × FitsI128 n)
+whole_value word (Value m) read n = (
+  λ e. let same : m ≡ n = cc in subst (λ k. (word ≡ whole_text k) × FitsI128 k) same read,
+  λ h. ap Value (whole_injective m n (sym read.0 ∙ h.0)),
+)
+whole_value word Large read n = (
+  λ e. absurd (cc),
+  λ h. let same = whole_injective read.0 n (sym read.1 ∙ h.0) in absurd (read.2 (subst FitsI128 (sym same) h.1)),
+)
+whole_value word Not read n = (λ e. absurd (cc), λ h. absurd (read n h.0))
+
+pub whole_large : (word : List ℕ) (r : WholeWord) → IsWholeRead (λ n. word ≡ whole_text n) r → (r ≡ Large) ↔ ((n : ℤ) × (word ≡ whole_text n) × ¬ (FitsI128 n))
+whole_large word (Value m) read = (
+  λ e. absurd (cc),
+  λ h. let same = whole_injective m h.0 (sym read.0 ∙ h.1) in absurd (h.2 (subst FitsI128 same read.1)),
+)
+whole_large word Large read = (λ e. read, λ h. refl)
+whole_large word Not read = (λ e. absurd (cc), λ h. absurd (read h.0 h.1))
+
+pub whole_not : (word : List ℕ) (r : WholeWord) → IsWholeRead (λ n. word ≡ whole_text n) r → (r ≡ Not) ↔ ((n : ℤ) → word ≢ whole_text n)
+whole_not word (Value m) read = (λ e. absurd (cc), λ h. absurd (h m read.0))
+whole_not word Large read = (λ e. absurd (cc), λ h. absurd (h read.0 read.1))
+whole_not word Not read = (λ e. read, λ h. refl)
 
 positive_injective : (m : ℕ) (n : ℤ) → IsPositive (natural_text (suc m)) n → pos (suc m) ≡ n
 positive_injective m (pos zero) is = absurd is

@@ -1,4 +1,4 @@
--- What a word, or a part of one, is read as, case by case.
+-- For private functions alone, no public contract cites it: what a word, or a part of one, is read as, case by case.
 use Rattle.std.specs.Prelude.{◌≡◌, ◌≢◌, ℕ, suc, zero, ◌<◌, ◌≤◌, ◌^◌, ℤ, pos, negsuc, List, length, slice_index, ◌⊎◌}
 use Rattle.quad_field.specs.declared.quad.Quad.{Quad}
 use Rattle.quad_field.specs.Width.{FitsI128, PartsFit}

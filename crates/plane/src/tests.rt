@@ -1,8 +1,8 @@
 //! Tables of words with what they are read as, and of numbers with their text.
 
 use super::{
-    NaturalWord, QuadWord, Vec2, VectorWord, put_quad, put_vector, read_natural, read_quad,
-    read_vector,
+    NaturalWord, QuadWord, Vec2, VectorWord, WholeWord, put_quad, put_vector, put_whole,
+    read_natural, read_quad, read_vector, read_whole,
 };
 use quad_field::Quad;
 use std::test::Fail;
@@ -71,6 +71,32 @@ fn reads_k_integers(rt: HostRuntime) {
     ] {
         assert_eq!(rt; read_quad(word.as_bytes()), QuadWord::Value(x), "at {word}");
     }
+}
+
+#[test]
+fn reads_and_writes_whole_numbers(rt: HostRuntime) -> Result<(), Fail> {
+    for (word, n) in [
+        ("0", 0),
+        ("-1", -1),
+        ("9007199254740993", 9007199254740993),
+        ("170141183460469231731687303715884105727", MAX),
+        ("-170141183460469231731687303715884105728", MIN),
+    ] {
+        assert_eq!(rt; read_whole(word.as_bytes()), WholeWord::Value(n), "at {word}");
+        let mut out = Vec::new(rt.alloc());
+        put_whole(rt.alloc(), &mut out, n)?;
+        assert_eq!(rt; out.as_slice(), word.as_bytes(), "at {n}");
+    }
+    for word in [
+        "170141183460469231731687303715884105728",
+        "-170141183460469231731687303715884105729",
+    ] {
+        assert_eq!(rt; read_whole(word.as_bytes()), WholeWord::Large, "at {word}");
+    }
+    for word in ["", "-", "-0", "00", "01", "+1", "1+1r", " 1", "1 "] {
+        assert_eq!(rt; read_whole(word.as_bytes()), WholeWord::Not, "at {word}");
+    }
+    Ok(())
 }
 
 #[test]

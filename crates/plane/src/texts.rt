@@ -69,6 +69,18 @@ pub fn put_natural(alloc: Global, out: &mut Vec<u8>, n: u64) -> Result<(), Alloc
     Ok(())
 }
 
+/// Appends the text of a whole number. After an error, which comes only where there is no room for the longest text,
+/// all is as it was.
+pub fn put_whole(alloc: Global, out: &mut Vec<u8>, n: i128) -> Result<(), AllocError>
+    ensures room { vec_len out.old + WHOLE_LENGTH ≤ vec_capacity out.old → IsOk result }
+    ensures ok { OnOk result (out.new.items ≡ out.old.items ++ whole_text n) }
+    ensures err { OnErr result (out.new.items ≡ out.old.items) }
+{
+    out.reserve(WHOLE_LENGTH)?;
+    append_whole(out, n);
+    Ok(())
+}
+
 /// Appends the text of a K-integer. After an error, which comes only where there is no room for the longest text,
 /// all is as it was.
 pub fn put_quad(alloc: Global, out: &mut Vec<u8>, x: Quad) -> Result<(), AllocError>

@@ -1,7 +1,7 @@
 //! Words of a text as numbers and vectors, read in their one spelling.
 
-ghost use Rattle.std.specs.Prelude.{◌≡◌, ◌≢◌, ◌↔◌, ℕ, ◌<◌, ◌+◌, ◌*◌, ◌^◌, None, SomeIff, MatchOption, IsTrue, length, slice_index};
-ghost use Rattle.quad_field.specs.Width.{PartsFit};
+ghost use Rattle.std.specs.Prelude.{◌≡◌, ◌≢◌, ◌↔◌, ℕ, ◌<◌, ◌+◌, ◌*◌, ◌^◌, ℤ, None, SomeIff, MatchOption, IsTrue, length, slice_index};
+ghost use Rattle.quad_field.specs.Width.{FitsI128, PartsFit};
 ghost use Rattle.quad_field.specs.declared.quad.Quad.{Quad as QuadValue};
 ghost use Rattle.plane.specs.declared.vec2.Vec2.{Vec2 as VectorValue};
 ghost use Rattle.plane.specs.Spelling.{natural_text, whole_text, root_text, quad_text, vector_text};
@@ -18,6 +18,17 @@ pub enum NaturalWord {
     /// A natural number of 2^128 or more.
     Large,
     /// No natural number in its spelling.
+    Not,
+}
+
+/// What a word is as a whole number.
+#[derive(Clone, Copy, Debug, PartialEq, Eq)]
+pub enum WholeWord {
+    /// This whole number.
+    Value(i128),
+    /// A whole number outside i128.
+    Large,
+    /// No whole number in its spelling.
     Not,
 }
 
@@ -40,17 +51,6 @@ pub enum VectorWord {
     /// A vector with a part of a coordinate outside i128.
     Large,
     /// No vector in its spelling.
-    Not,
-}
-
-/// What a part of a K-integer's word is.
-#[derive(Clone, Copy, Debug, PartialEq, Eq)]
-enum WholeWord {
-    /// This whole number.
-    Value(i128),
-    /// A whole number outside i128.
-    Large,
-    /// No whole number in its spelling.
     Not,
 }
 
@@ -144,7 +144,16 @@ fn starts_with(word: &[u8], byte: u8) -> bool
 }
 
 /// Reads a whole number, all of the word.
-fn read_whole(word: &[u8]) -> WholeWord
+pub fn read_whole(word: &[u8]) -> WholeWord
+    ensures value { (n : ℤ) → (result ≡ WholeWord.Value n) ↔ ((word.now ≡ whole_text n) × FitsI128 n) }
+    ensures large { (result ≡ WholeWord.Large) ↔ ((n : ℤ) × (word.now ≡ whole_text n) × ¬ (FitsI128 n)) }
+    ensures not { (result ≡ WholeWord.Not) ↔ ((n : ℤ) → word.now ≢ whole_text n) }
+{
+    whole_of(word)
+}
+
+/// The same, case by case.
+fn whole_of(word: &[u8]) -> WholeWord
     ensures { IsWholeRead (λ n. word.now ≡ whole_text n) result }
 {
     if starts_with(word, b'-') {
@@ -202,7 +211,7 @@ fn quad_of(word: &[u8]) -> QuadWord
 {
     let end = sign_place(word);
     let (front, back) = word.split_at(end);
-    match (read_whole(front), read_root(back)) {
+    match (whole_of(front), read_root(back)) {
         (WholeWord::Value(a), WholeWord::Value(b)) => QuadWord::Value(Quad { a, b }),
         (WholeWord::Not, _) | (_, WholeWord::Not) => QuadWord::Not,
         _ => QuadWord::Large,

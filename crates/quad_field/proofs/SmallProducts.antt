@@ -1,17 +1,24 @@
 -- No step of a product of small numbers is wide.
-use Rattle.std.proofs.Common.{◌≡◌, ℕ, ◌+◌, ◌*◌, ◌^◌, ◌<◌, ◌≤◌, ◌↔◌, IsTrue, Bool, true, false, ◌&&◌, to_z, of_z, arith, refl, ap, sym, subst, ◌∙◌}
+use Rattle.std.proofs.Common.{◌≡◌, ℕ, ◌+◌, ◌*◌, ◌^◌, ◌<◌, ◌≤◌, ◌↔◌, IsTrue, Bool, true, false, ◌&&◌, [], ◌∷◌, to_z, of_z, arith, refl, ap, sym, subst, ◌∙◌}
 use Rattle.std.specs.Prelude.{ℤ, pos, ◌+ℤ◌, ◌*ℤ◌, unsigned_abs, FitsSigned}
 use Rattle.std.specs.Int.{w64, w128}
 use Rattle.std.proofs.lemmas.Int.{ints, unsigned_abs-mul, to_z-of_z}
+use mathlib.Core.Path.{subst₂}
 use Rattle.std.proofs.lemmas.Nat.{mul-le}
+use Rattle.rings.specs.Ring.{var, expr, whole_ops}
+use Rattle.rings.proofs.Solver.{identity}
+use Rattle.rings.proofs.WholeNumbers.{whole_ring}
 use Rattle.quad_field.specs.declared.quad.Quad.{Quad}
 use Rattle.quad_field.specs.Quads.{quad, product}
 use Rattle.quad_field.specs.Width.{FitsI128, AllFit, product_steps}
-use Rattle.quad_field.specs.Checked.{IsSmall, AreSmall}
+use Rattle.quad_field.specs.Checked.{IsSmall, AreSmall, AreSmallAndWhole}
 
 -- ---- sizes
 small_size : (n : ℤ) → IsSmall n → unsigned_abs n ≤ 2 ^ 53
 small_size n s = omega (arith, ints)
+
+zero_small : IsSmall (pos 0)
+zero_small = (omega (arith, ints), omega (arith, ints))
 
 fits_by_size : (n : ℤ) → unsigned_abs n < 2 ^ 127 → FitsI128 n
 fits_by_size n h = omega (arith, ints)
@@ -24,6 +31,13 @@ scaled_size d n small h = omega (arith, unsigned_abs-mul (pos d) n, mul-le d (un
 
 sum_size : (m n : ℤ) → unsigned_abs (m +ℤ n) ≤ unsigned_abs m + unsigned_abs n
 sum_size m n = omega (arith, ints)
+
+-- ---- a product of whole numbers
+whole_alone : (d : ℕ) (n : ℤ) → n ≡ n +ℤ (pos d *ℤ (pos 0 *ℤ pos 0))
+whole_alone d n = identity whole_ops whole_ring (n ∷ pos d ∷ []) (var 0) (expr.add (var 0) (expr.mul (var 1) (expr.mul (expr.int (pos 0)) (expr.int (pos 0))))) tt
+
+no_root : (m n : ℤ) → pos 0 ≡ (m *ℤ pos 0) +ℤ (pos 0 *ℤ n)
+no_root m n = identity whole_ops whole_ring (m ∷ n ∷ []) (expr.int (pos 0)) (expr.add (expr.mul (var 0) (expr.int (pos 0))) (expr.mul (expr.int (pos 0)) (var 1))) tt
 
 -- ---- the seven steps of a product
 module _ (d : ℕ) (x y : Quad) (field : d ≤ 1000000) (small : AreSmall x y) where
@@ -64,88 +78,79 @@ module _ (d : ℕ) (x y : Quad) (field : d ≤ 1000000) (small : AreSmall x y) w
   )
 
 -- ---- what is read back
--- a number of the code
+-- a number of the code, of 128 bits and of 64
 abbrev read : ℤ → ℤ
 read n = to_z w128 (of_z w128 n)
+
+abbrev read_64 : ℤ → ℤ
+read_64 n = to_z w64 (of_z w64 n)
 
 read_as : (n m : ℤ) → n ≡ m → FitsI128 m → read n ≡ m
 read_as n m e f = ap read e ∙ to_z-of_z w128 m f
 
--- a small number fits
-small_fits : (n : ℤ) → IsSmall n → FitsI128 n
-small_fits n s = fits_by_size n (omega (arith, small_size n s))
+-- a small number stays as it is in 64 bits
+narrow_as : (n m : ℤ) → IsSmall m → n ≡ read m → read_64 n ≡ m
+narrow_as n m s e =
+    let f : FitsI128 m = fits_by_size m (omega (arith, small_size m s)) in
+    let g : FitsSigned w64 m = omega (arith, ints, small_size m s) in
+    ap read_64 (e ∙ to_z-of_z w128 m f) ∙ to_z-of_z w64 m g
 
--- and stays as it is in 64 bits
-abbrev narrow : ℤ → ℤ
-narrow n = to_z w64 (of_z w64 (read n))
+-- and so does a product of two
+times_as : (m n k l p : ℤ) → IsSmall m → IsSmall n → k ≡ read m → l ≡ read n → p ≡ read_64 k *ℤ read_64 l → p ≡ m *ℤ n
+times_as m n k l p s t e f g = g ∙ λ i. narrow_as k m s e i *ℤ narrow_as l n t f i
 
-narrow_is : (n : ℤ) → IsSmall n → narrow n ≡ n
-narrow_is n s =
-    let f : FitsSigned w64 n = omega (arith, ints, small_size n s) in
-    ap (λ k. to_z w64 (of_z w64 k)) (to_z-of_z w128 n (small_fits n s)) ∙ to_z-of_z w64 n f
+-- the product of two small whole numbers
+module _ (d : ℕ) (x y : Quad) (w : AreSmallAndWhole x y) where
+  pub small_from_whole : AreSmall x y
+  small_from_whole = (w.1, subst IsSmall (sym w.0.0) zero_small, w.2, subst IsSmall (sym w.0.1) zero_small)
 
-module _ (m n k l : ℤ) (s : IsSmall m) (t : IsSmall n) (e : k ≡ narrow m) (f : l ≡ narrow n) where
-  first_is : read k ≡ m
-  first_is = read_as k m (e ∙ narrow_is m s) (small_fits m s)
+  pub whole_read : (a c p : ℤ) → a ≡ read x.a → c ≡ read y.a → p ≡ read_64 a *ℤ read_64 c → quad (read p) (pos 0) ≡ product d x y
+  whole_read a c p is_a is_c is_p =
+      let first : read p ≡ x.a *ℤ y.a =
+      read_as p (x.a *ℤ y.a) (times_as x.a y.a a c p w.1 w.2 is_a is_c is_p) (fits_by_size (x.a *ℤ y.a) (omega (arith, times_size x.a y.a w.1 w.2))) in
+      subst₂ (λ m n. quad (read p) (pos 0) ≡ product d (quad x.a m) (quad y.a n)) (sym w.0.0) (sym w.0.1)
+      (λ i. quad ((first ∙ whole_alone d (x.a *ℤ y.a)) i) (no_root x.a y.a i))
 
-  second_is : read l ≡ n
-  second_is = read_as l n (f ∙ narrow_is n t) (small_fits n t)
-
-  times_is : read k *ℤ read l ≡ m *ℤ n
-  times_is = λ i. first_is i *ℤ second_is i
-
-  fits : FitsI128 (m *ℤ n)
-  fits = fits_by_size (m *ℤ n) (omega (arith, times_size m n s t))
-
-  pub times_fits : FitsSigned w128 (read k *ℤ read l)
-  times_fits = subst FitsI128 (sym times_is) fits
-
-  pub times_read : read (read k *ℤ read l) ≡ m *ℤ n
-  times_read = read_as (read k *ℤ read l) (m *ℤ n) times_is fits
-
--- a product of what is read of small numbers is theirs
-product_as : (m n p : ℤ) → IsSmall m → IsSmall n → p ≡ read m *ℤ read n → p ≡ m *ℤ n
-product_as m n p s t e = e ∙ λ i. to_z-of_z w128 m (small_fits m s) i *ℤ to_z-of_z w128 n (small_fits n t) i
-
-module _ (d : ℕ) (x y : Quad) (field : d ≤ 1000000) (small : AreSmall x y) (p q r s e : ℤ)
-    (is_p : p ≡ read x.a *ℤ read y.a) (is_q : q ≡ read x.b *ℤ read y.b) (is_r : r ≡ read x.a *ℤ read y.b) (is_s : s ≡ read x.b *ℤ read y.a) (is_e : e ≡ pos d) where
+module _ (d : ℕ) (x y : Quad) (field : d ≤ 1000000) (small : AreSmall x y) (a b c e : ℤ)
+    (is_a : a ≡ read x.a) (is_b : b ≡ read x.b) (is_c : c ≡ read y.a) (is_e : e ≡ read y.b) where
   steps : AllFit (product_steps d x y)
   steps = small_steps d x y field small
 
-  first : read p ≡ x.a *ℤ y.a
-  first = read_as p (x.a *ℤ y.a) (product_as x.a y.a p small.0 small.2 is_p) steps.0
+  module _ (p q r s k : ℤ) (is_p : p ≡ read_64 a *ℤ read_64 c) (is_q : q ≡ read_64 b *ℤ read_64 e) (is_r : r ≡ read_64 a *ℤ read_64 e) (is_s : s ≡ read_64 b *ℤ read_64 c) (is_k : k ≡ pos d) where
+    first : read p ≡ x.a *ℤ y.a
+    first = read_as p (x.a *ℤ y.a) (times_as x.a y.a a c p small.0 small.2 is_a is_c is_p) steps.0
 
-  second : read q ≡ x.b *ℤ y.b
-  second = read_as q (x.b *ℤ y.b) (product_as x.b y.b q small.1 small.3 is_q) steps.1.0
+    second : read q ≡ x.b *ℤ y.b
+    second = read_as q (x.b *ℤ y.b) (times_as x.b y.b b e q small.1 small.3 is_b is_e is_q) steps.1.0
 
-  third : read r ≡ x.a *ℤ y.b
-  third = read_as r (x.a *ℤ y.b) (product_as x.a y.b r small.0 small.3 is_r) steps.1.1.1.1.0
+    third : read r ≡ x.a *ℤ y.b
+    third = read_as r (x.a *ℤ y.b) (times_as x.a y.b a e r small.0 small.3 is_a is_e is_r) steps.1.1.1.1.0
 
-  fourth : read s ≡ x.b *ℤ y.a
-  fourth = read_as s (x.b *ℤ y.a) (product_as x.b y.a s small.1 small.2 is_s) steps.1.1.1.1.1.0
+    fourth : read s ≡ x.b *ℤ y.a
+    fourth = read_as s (x.b *ℤ y.a) (times_as x.b y.a b c s small.1 small.2 is_b is_c is_s) steps.1.1.1.1.1.0
 
-  scaled_is : read e *ℤ read q ≡ pos d *ℤ (x.b *ℤ y.b)
-  scaled_is = λ i. read_as e (pos d) is_e (fits_by_size (pos d) (omega (arith, field))) i *ℤ second i
+    scaled_is : read k *ℤ read q ≡ pos d *ℤ (x.b *ℤ y.b)
+    scaled_is = λ i. read_as k (pos d) is_k (fits_by_size (pos d) (omega (arith, field))) i *ℤ second i
 
-  whole_is : read p +ℤ read (read e *ℤ read q) ≡ (product d x y).a
-  whole_is = λ i. first i +ℤ read_as (read e *ℤ read q) (pos d *ℤ (x.b *ℤ y.b)) scaled_is steps.1.1.0 i
+    whole_is : read p +ℤ read (read k *ℤ read q) ≡ (product d x y).a
+    whole_is = λ i. first i +ℤ read_as (read k *ℤ read q) (pos d *ℤ (x.b *ℤ y.b)) scaled_is steps.1.1.0 i
 
-  root_is : read r +ℤ read s ≡ (product d x y).b
-  root_is = λ i. third i +ℤ fourth i
+    root_is : read r +ℤ read s ≡ (product d x y).b
+    root_is = λ i. third i +ℤ fourth i
 
-  pub scaled_fits : FitsSigned w128 (read e *ℤ read q)
-  scaled_fits = subst FitsI128 (sym scaled_is) steps.1.1.0
+    pub scaled_fits : FitsSigned w128 (read k *ℤ read q)
+    scaled_fits = subst FitsI128 (sym scaled_is) steps.1.1.0
 
-  pub whole_fits : FitsSigned w128 (read p +ℤ read (read e *ℤ read q))
-  whole_fits = subst FitsI128 (sym whole_is) steps.1.1.1.0
+    pub whole_fits : FitsSigned w128 (read p +ℤ read (read k *ℤ read q))
+    whole_fits = subst FitsI128 (sym whole_is) steps.1.1.1.0
 
-  pub root_fits : FitsSigned w128 (read r +ℤ read s)
-  root_fits = subst FitsI128 (sym root_is) steps.1.1.1.1.1.1.0
+    pub root_fits : FitsSigned w128 (read r +ℤ read s)
+    root_fits = subst FitsI128 (sym root_is) steps.1.1.1.1.1.1.0
 
-  pub product_read : quad (read (read p +ℤ read (read e *ℤ read q))) (read (read r +ℤ read s)) ≡ product d x y
-  product_read = λ i. quad
-      (read_as (read p +ℤ read (read e *ℤ read q)) (product d x y).a whole_is steps.1.1.1.0 i)
-      (read_as (read r +ℤ read s) (product d x y).b root_is steps.1.1.1.1.1.1.0 i)
+    pub product_read : quad (read (read p +ℤ read (read k *ℤ read q))) (read (read r +ℤ read s)) ≡ product d x y
+    product_read = λ i. quad
+        (read_as (read p +ℤ read (read k *ℤ read q)) (product d x y).a whole_is steps.1.1.1.0 i)
+        (read_as (read r +ℤ read s) (product d x y).b root_is steps.1.1.1.1.1.1.0 i)
 
 -- ---- a test of four parts
 pub and_both : (p q : Bool) (P Q : Type 0) → (IsTrue p ↔ P) → (IsTrue q ↔ Q) → IsTrue (p && q) ↔ (P × Q)

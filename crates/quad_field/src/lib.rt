@@ -18,4 +18,6 @@ pub use formula::{Formula, Wide};
 pub use quad::{Quad, Sign, TooWide};
 
 #[cfg(test)]
+mod sign_tests;
+#[cfg(test)]
 mod tests;

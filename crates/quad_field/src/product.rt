@@ -1,9 +1,9 @@
 //! Products of K-integers.
 
-ghost use Rattle.std.specs.Prelude.{◌≡◌, ◌≤◌, ◌↔◌, ◌+ℤ◌, ◌*ℤ◌, IsOk, IfOk, IsTrue};
-ghost use Rattle.quad_field.specs.Checked.{IsExactWhere, IsSmall, AreSmall, root_part_steps, whole_part_steps};
-ghost use Rattle.quad_field.specs.Quads.{product};
-ghost use Rattle.quad_field.specs.Width.{AllFit, FitsI128, product_steps};
+ghost use Rattle.std.specs.Prelude.{◌≡◌, ◌≤◌, ◌↔◌, pos, ◌+ℤ◌, ◌*ℤ◌, IsTrue};
+ghost use Rattle.quad_field.specs.Checked.{IsExactProduct, IsExactWhere, IsSmall, AreSmall, AreSmallAndWhole, root_part_steps, whole_part_steps};
+ghost use Rattle.quad_field.specs.Quads.{product, quad};
+ghost use Rattle.quad_field.specs.Width.{AllFit, FitsI128};
 
 use super::{Quad, TooWide};
 
@@ -27,17 +27,57 @@ fn are_small(x: Quad, y: Quad) -> bool
     is_small(x.a) & is_small(x.b) & is_small(y.a) & is_small(y.b)
 }
 
+/// Whether both parts are zero.
+#[inline]
+fn are_zero(m: i128, n: i128) -> bool
+    ensures { IsTrue result ↔ ((m ≡ pos 0) × (n ≡ pos 0)) }
+{
+    (m == 0) & (n == 0)
+}
+
+/// Whether both are small whole numbers.
+#[inline]
+fn are_small_and_whole(x: Quad, y: Quad) -> bool
+    ensures { IsTrue result ↔ AreSmallAndWhole x y }
+{
+    are_zero(x.b, y.b) && (is_small(x.a) & is_small(y.a))
+}
+
 /// x·y, for numbers of the field of √d.
 #[inline]
 pub fn product_of(d: u32, x: Quad, y: Quad) -> Result<Quad, TooWide>
     requires { d ≤ 1000000 }
-    ensures exact { IfOk result (λ z. z ≡ product d x y) }
-    ensures fits { IsOk result ↔ AllFit (product_steps d x y) }
+    ensures { IsExactProduct d x y result }
 {
+    if are_small_and_whole(x, y) {
+        return Ok(whole_product(d, x, y));
+    }
     if are_small(x, y) {
-        Ok(small_product(d, x, y))
-    } else {
-        wide_product(d, x, y)
+        return Ok(small_product(d, x, y));
+    }
+    long_way(d, x, y)
+}
+
+/// The product where a part isn't small. It is part of its caller, so that what the long way answers is in memory there alone.
+#[inline(always)]
+fn long_way(d: u32, x: Quad, y: Quad) -> Result<Quad, TooWide>
+    ensures { IsExactProduct d x y result }
+{
+    match wide_product(d, x.a, x.b, y.a, y.b) {
+        Ok(z) => Ok(z),
+        Err(TooWide) => Err(TooWide),
+    }
+}
+
+/// The product of small whole numbers: one multiplication.
+#[inline]
+fn whole_product(d: u32, x: Quad, y: Quad) -> Quad
+    requires { AreSmallAndWhole x y }
+    ensures { result ≡ product d x y }
+{
+    Quad {
+        a: times_64(narrow(x.a), narrow(y.a)),
+        b: 0,
     }
 }
 
@@ -48,36 +88,52 @@ fn small_product(d: u32, x: Quad, y: Quad) -> Quad
     requires small { AreSmall x y }
     ensures { result ≡ product d x y }
 {
-    let ac = small_times(x.a, y.a);
-    let bd = small_times(x.b, y.b);
-    let ad = small_times(x.a, y.b);
-    let bc = small_times(x.b, y.a);
+    let a = narrow(x.a);
+    let b = narrow(x.b);
+    let c = narrow(y.a);
+    let e = narrow(y.b);
+    let ac = times_64(a, c);
+    let be = times_64(b, e);
+    let ae = times_64(a, e);
+    let bc = times_64(b, c);
     Quad {
-        a: ac + i128::from(d) * bd,
-        b: ad + bc,
+        a: ac + i128::from(d) * be,
+        b: ae + bc,
     }
 }
 
-/// m·n for small numbers, by one multiplication of 64 bits.
+/// A small number in 64 bits.
 #[inline]
-fn small_times(m: i128, n: i128) -> i128
-    requires first { IsSmall m }
-    requires second { IsSmall n }
-    ensures { result ≡ m *ℤ n }
+fn narrow(n: i128) -> i64
+    requires { IsSmall n }
+    ensures { result ≡ n }
 {
-    i128::from(m as i64) * i128::from(n as i64)
+    n as i64
 }
 
-/// The product where a part isn't small, step by step.
+/// m·n, by one multiplication of 64 bits.
+#[inline]
+fn times_64(m: i64, n: i64) -> i128
+    ensures { result ≡ m *ℤ n }
+{
+    i128::from(m) * i128::from(n)
+}
+
+/// (a + b·√d)·(c + e·√d), step by step. The parts are passed one by one, so that the short way keeps its numbers out of memory.
 #[cold]
 #[inline(never)]
-fn wide_product(d: u32, x: Quad, y: Quad) -> Result<Quad, TooWide>
-    ensures exact { IfOk result (λ z. z ≡ product d x y) }
-    ensures fits { IsOk result ↔ AllFit (product_steps d x y) }
+fn wide_product(d: u32, a: i128, b: i128, c: i128, e: i128) -> Result<Quad, TooWide>
+    ensures { IsExactProduct d (quad a b) (quad c e) result }
 {
-    let a = whole_part(d, x, y)?;
-    let b = root_part(x, y)?;
-    Ok(Quad { a, b })
+    let x = Quad { a, b };
+    let y = Quad { a: c, b: e };
+    match whole_part(d, x, y) {
+        Ok(whole) => match root_part(x, y) {
+            Ok(root) => Ok(Quad { a: whole, b: root }),
+            Err(TooWide) => Err(TooWide),
+        },
+        Err(TooWide) => Err(TooWide),
+    }
 }
 
 /// The whole part of x·y, for numbers of the field of √d.

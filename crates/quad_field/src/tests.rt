@@ -1,6 +1,6 @@
 //! Worked values, at ordinary numbers and at the ends of i128.
 
-use super::{Field, Quad, Sign, TooWide, content, reduce};
+use super::{Field, Quad, Sign, TooWide, content, primitive_part, reduce};
 use std::test::Fail;
 
 const MAX: i128 = i128::MAX;
@@ -87,8 +87,55 @@ fn multiplies(rt: HostRuntime) -> Result<(), Fail> {
     ] {
         assert_eq!(rt; field.mul(x, y), product, "{x:?} and {y:?}");
     }
+    Ok(())
+}
+
+// around the ends of the numbers whose products are taken in 64 bits
+#[test]
+fn multiplies_small_numbers(rt: HostRuntime) -> Result<(), Fail> {
+    const END: i128 = 1 << 53;
     let field = Field::make(997).ok_or("997 is square-free")?;
-    assert_eq!(rt; field.mul(quad(2, 3), quad(5, -7)), Ok(quad(-20927, 1)));
+    for (x, y, product) in [
+        (quad(2, 3), quad(5, -7), quad(-20927, 1)),
+        (quad(-3, 0), quad(7, 0), quad(-21, 0)),
+        (quad(-3, 0), quad(7, 2), quad(-21, -6)),
+        (
+            quad(-END, END - 1),
+            quad(END - 1, -END),
+            quad(
+                -80967379137777459343212570902265856,
+                162259276829213345377179500806145,
+            ),
+        ),
+        (
+            quad(END, END - 1),
+            quad(1, -END),
+            quad(
+                -80886249499362852661516781897121792,
+                -81129638414606672688589750403073,
+            ),
+        ),
+        (
+            quad(-END, 0),
+            quad(END - 1, 0),
+            quad(-81129638414606672688589750403072, 0),
+        ),
+        (
+            quad(-END - 1, 0),
+            quad(END, 0),
+            quad(-81129638414606690702988259885056, 0),
+        ),
+        (
+            quad(-END, -END),
+            quad(-END, -END),
+            quad(
+                80967379137777468332397427133775872,
+                162259276829213363391578010288128,
+            ),
+        ),
+    ] {
+        assert_eq!(rt; field.mul(x, y), Ok(product), "{x:?} and {y:?}");
+    }
     Ok(())
 }
 
@@ -111,245 +158,6 @@ fn tells_signs(rt: HostRuntime) -> Result<(), Fail> {
         (quad(0, MIN), Sign::Minus),
     ] {
         assert_eq!(rt; field.sign(x), sign, "{x:?}");
-    }
-    Ok(())
-}
-
-// p and -q for convergents p / q of √d, by p' = a·p + p0 and q' = a·q + q0 with the terms a of its continued fraction,
-// the last two below 2^127 and those about 2^59; then the sign of p - q·√d, and the opposite sign.
-#[test]
-fn tells_the_signs_of_convergents(rt: HostRuntime) -> Result<(), Fail> {
-    let one = quad(1, 0);
-    for (d, a, b, sign, opposite) in [
-        (
-            2,
-            39243058951466341909004733505464609607,
-            -27749033099085295754434173207717704165,
-            Sign::Minus,
-            Sign::Plus,
-        ),
-        (
-            2,
-            94741125149636933417873079920900017937,
-            -66992092050551637663438906713182313772,
-            Sign::Plus,
-            Sign::Minus,
-        ),
-        (
-            13,
-            86974896232605974540224433609708489524,
-            -24122496003447737592169862494546013761,
-            Sign::Plus,
-            Sign::Minus,
-        ),
-        (
-            13,
-            162514080170010845926219026549505052647,
-            -45073296079833816574854719532933505682,
-            Sign::Minus,
-            Sign::Plus,
-        ),
-        (
-            94,
-            123075829093428903404302655555981951586,
-            -12694302502787870312287198196640272557,
-            Sign::Minus,
-            Sign::Plus,
-        ),
-        (
-            94,
-            143941609344891761616360194159614952353,
-            -14846443409900464402887705194926249670,
-            Sign::Plus,
-            Sign::Minus,
-        ),
-        (
-            661,
-            11658067961156101407732949922953887155,
-            -453446290042163743886061284308456549,
-            Sign::Minus,
-            Sign::Plus,
-        ),
-        (
-            661,
-            16421658242965910275055840472270471049,
-            -638728478116949861246791167518480580,
-            Sign::Plus,
-            Sign::Minus,
-        ),
-        (
-            991,
-            59216920149672888404703419954423892973,
-            -1881087462717851269950821611505644882,
-            Sign::Plus,
-            Sign::Minus,
-        ),
-        (
-            991,
-            75639946654330793489856736351491451008,
-            -2402782092896378253853884041190459109,
-            Sign::Minus,
-            Sign::Plus,
-        ),
-        (
-            997,
-            127394779418927421676185269796980803231,
-            -4034633145286981198333543596430777765,
-            Sign::Plus,
-            Sign::Minus,
-        ),
-        (
-            997,
-            129430642859604371197763036517399706885,
-            -4099109587371175768551471882753741446,
-            Sign::Minus,
-            Sign::Plus,
-        ),
-        (
-            2,
-            202605639573839043,
-            -143263821649299118,
-            Sign::Plus,
-            Sign::Minus,
-        ),
-        (
-            2,
-            489133282872437279,
-            -345869461223138161,
-            Sign::Minus,
-            Sign::Plus,
-        ),
-        (
-            2,
-            1180872205318713601,
-            -835002744095575440,
-            Sign::Plus,
-            Sign::Minus,
-        ),
-        (
-            2,
-            2850877693509864481,
-            -2015874949414289041,
-            Sign::Minus,
-            Sign::Plus,
-        ),
-        (
-            997,
-            155655187929093109,
-            -4929649262858942,
-            Sign::Minus,
-            Sign::Plus,
-        ),
-        (
-            997,
-            308862016648533836,
-            -9781758211555179,
-            Sign::Plus,
-            Sign::Minus,
-        ),
-        (
-            997,
-            773379221226160781,
-            -24493165685969300,
-            Sign::Minus,
-            Sign::Plus,
-        ),
-        (
-            997,
-            1082241237874694617,
-            -34274923897524479,
-            Sign::Plus,
-            Sign::Minus,
-        ),
-    ] {
-        let field = Field::make(d).ok_or("a field's number")?;
-        let x = quad(a, b);
-        assert_eq!(rt; field.sign(x), sign, "{d}: {x:?}");
-        assert_eq!(rt;
-            field.neg(x).map(|y| field.sign(y)),
-            Ok(opposite),
-            "{d}: {x:?}"
-        );
-        assert_eq!(rt;
-            field.add(x, one).map(|y| field.sign(y)),
-            Ok(Sign::Plus),
-            "{d}: {x:?}"
-        );
-        assert_eq!(rt;
-            field.sub(x, one).map(|y| field.sign(y)),
-            Ok(Sign::Minus),
-            "{d}: {x:?}"
-        );
-    }
-    Ok(())
-}
-
-// p and -q for the last convergent p / q of √d with p below 10^23, by p' = a·p + p0 and q' = a·q + q0 with the terms a of its continued
-// fraction, for every square-free d up to 60; then whether p² is above d·q².
-#[test]
-fn tells_the_signs_of_convergents_in_every_small_field(rt: HostRuntime) -> Result<(), Fail> {
-    for (d, p, q, above) in [
-        (2, 46292552162781456490001, -32733777552734744709300, true),
-        (3, 37746084314912758705537, -21792711940069192045616, true),
-        (5, 78813038642399407645162, -35246262383544562907057, false),
-        (6, 39586742089026670802885, -16161219782878991713198, true),
-        (7, 35061166466652716984168, -13251875306657183598333, true),
-        (10, 39945386524111332371403, -12631840343198829521029, false),
-        (11, 39667779713610549077343, -11960285597865251854579, false),
-        (13, 67714112035361755323479, -18780515616616157305407, true),
-        (14, 54622608689257962810244, -14598506234787466632959, true),
-        (15, 99676471670600124867871, -25736354319263310981224, true),
-        (17, 27670850984394901277284, -6711167138787446924161, false),
-        (19, 30356132893812752841530, -6964174505306352516039, true),
-        (21, 14252619104807110251895, -3110176471388205977988, true),
-        (22, 78980798112919565127016, -16838762736012296053661, false),
-        (23, 34969977606812025567115, -7291744390273435092049, true),
-        (26, 62717951585471999703115, -12300002268726510156601, false),
-        (29, 78031276805304028734527, -14490044334748074750705, true),
-        (30, 31978194508699008958091, -5838392826900760055074, true),
-        (31, 30772514866289589762681, -5526906826683362419033, true),
-        (33, 94341810154077637241377, -16422801170239287792904, true),
-        (34, 81677468524333750755126, -14007570289945037401681, true),
-        (35, 19850500136774508562206, -3355346929816795234321, true),
-        (37, 26574251867948048215518, -4368780095488158399985, false),
-        (38, 13452366034640253240001, -2182261935710542631400, true),
-        (39, 74349677945488832687106, -11905476665413930552849, false),
-        (41, 61111993118364002748173, -9544089861805512237442, true),
-        (42, 21293229181234844660737, -3285616594175108025248, true),
-        (43, 57032515249947238998151, -8697377038089427227540, true),
-        (46, 29721816295555408925777, -4382242735093187743741, true),
-        (47, 44163366169042551090247, -6441889030765795776959, true),
-        (51, 70629395392055746045793, -9890093571443534849401, false),
-        (53, 56093424824522071350182, -7705024467709744375225, false),
-        (55, 15960002327065336716001, -2152046274764094730680, true),
-        (57, 10446952837940835312151, -1383732706658512320180, true),
-        (58, 46316174427035658925363, -6081611647722756602886, true),
-        (59, 34615937076342697439257, -4506611150549779842483, false),
-    ] {
-        let field = Field::make(d).ok_or("a field's number")?;
-        let (sign, opposite) = if above {
-            (Sign::Plus, Sign::Minus)
-        } else {
-            (Sign::Minus, Sign::Plus)
-        };
-        let x = quad(p, q);
-        let one = quad(1, 0);
-        assert_eq!(rt; field.sign(x), sign, "{d}: {x:?}");
-        assert_eq!(rt;
-            field.neg(x).map(|y| field.sign(y)),
-            Ok(opposite),
-            "{d}: {x:?}"
-        );
-        assert_eq!(rt;
-            field.add(x, one).map(|y| field.sign(y)),
-            Ok(Sign::Plus),
-            "{d}: {x:?}"
-        );
-        assert_eq!(rt;
-            field.sub(x, one).map(|y| field.sign(y)),
-            Ok(Sign::Minus),
-            "{d}: {x:?}"
-        );
     }
     Ok(())
 }
@@ -437,4 +245,20 @@ fn reduces(rt: HostRuntime) {
     reduce(&mut nums, &mut den);
     assert_eq!(rt; nums, [quad(6, 0), quad(0, -10)]);
     assert_eq!(rt; den, 15);
+}
+
+#[test]
+fn takes_contents_out(rt: HostRuntime) {
+    for (list, primitive) in [
+        ([quad(6, -4), quad(0, 10)], [quad(3, -2), quad(0, 5)]),
+        ([quad(-7, 0), quad(3, 0)], [quad(-7, 0), quad(3, 0)]),
+        ([quad(0, 0), quad(0, -5)], [quad(0, 0), quad(0, -1)]),
+        ([quad(0, 0), quad(0, 0)], [quad(0, 0), quad(0, 0)]),
+        ([quad(MIN, 0), quad(0, MIN)], [quad(-1, 0), quad(0, -1)]),
+        ([quad(MAX, 0), quad(0, -MAX)], [quad(1, 0), quad(0, -1)]),
+    ] {
+        let mut numbers = list;
+        primitive_part(&mut numbers);
+        assert_eq!(rt; numbers, primitive, "{list:?}");
+    }
 }

@@ -1,4 +1,4 @@
--- The numbers a + b·√D over a commutative ring, as pairs (a, b).
+-- For proofs alone, no contract cites it: the numbers a + b·√D over a commutative ring, as pairs (a, b).
 use Rattle.std.specs.Prelude.{pos}
 use Rattle.rings.specs.Ring.{Ops}
 

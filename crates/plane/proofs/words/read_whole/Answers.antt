@@ -1,10 +1,11 @@
-use Rattle.std.proofs.Common.{refl}
-use Rattle.std.proofs.lemmas.List.{take_rest}
-use Rattle.plane.proofs.Wholes.{whole_minus, whole_plain}
+use Rattle.plane.proofs.Wholes.{whole_value, whole_large, whole_not}
 use Rattle.plane.proofs.words.read_whole.Goals as goal
 
-pub returns-then-starts_with : goal.returns-then-starts_with
-returns-then-starts_with c = whole_minus _ _ (c.if-starts_with.ensures.0 refl) (rw (take_rest c.args.word.now 1) at c.read_negative.ensures)
+pub returns-clause-value : goal.returns-clause-value
+returns-clause-value c = whole_value _ _ c.whole_of.ensures
 
-pub returns-else-starts_with : goal.returns-else-starts_with
-returns-else-starts_with c = whole_plain _ _ (λ first. let wrong = c.if-starts_with.ensures.1 first in absurd (cc)) c.read_nonnegative.ensures
+pub returns-clause-large : goal.returns-clause-large
+returns-clause-large c = whole_large _ _ c.whole_of.ensures
+
+pub returns-clause-not : goal.returns-clause-not
+returns-clause-not c = whole_not _ _ c.whole_of.ensures
