@@ -8,7 +8,9 @@ mod vec2;
 mod words;
 
 pub use halves::is_upper;
-pub use texts::{QUAD_LENGTH, VECTOR_LENGTH, WHOLE_LENGTH, put_natural, put_quad, put_vector, put_whole};
+pub use texts::{
+    QUAD_LENGTH, VECTOR_LENGTH, WHOLE_LENGTH, put_natural, put_quad, put_vector, put_whole,
+};
 pub use vec2::{Vec2, det, opposite, sum};
 pub use words::{
     NaturalWord, QuadWord, VectorWord, WholeWord, read_natural, read_quad, read_vector, read_whole,

@@ -82,7 +82,11 @@ fn reads_and_writes_whole_numbers(rt: HostRuntime) -> Result<(), Fail> {
         ("170141183460469231731687303715884105727", MAX),
         ("-170141183460469231731687303715884105728", MIN),
     ] {
-        assert_eq!(rt; read_whole(word.as_bytes()), WholeWord::Value(n), "at {word}");
+        assert_eq!(rt;
+            read_whole(word.as_bytes()),
+            WholeWord::Value(n),
+            "at {word}"
+        );
         let mut out = Vec::new(rt.alloc());
         put_whole(rt.alloc(), &mut out, n)?;
         assert_eq!(rt; out.as_slice(), word.as_bytes(), "at {n}");
