@@ -1,0 +1,5 @@
+pub mod Views
+pub mod Counting
+pub mod Told
+pub mod Rule
+pub mod Seats
