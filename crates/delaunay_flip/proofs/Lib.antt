@@ -1,6 +1,13 @@
+pub mod Sets
 pub mod Fractions
 pub mod Signs
+pub mod Twins
+pub mod TableLemmas
 pub mod Flips
-pub mod Seeing
+pub mod Untouched
+pub mod Keepings
 pub mod Endings
 pub mod Listing
+pub mod Finding
+pub mod Deciding
+pub mod Existing

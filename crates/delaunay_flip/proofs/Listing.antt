@@ -3,6 +3,7 @@ use Rattle.std.proofs.Common.{◌≡◌, ℕ, ◌+◌, ◌-◌, ◌<◌, List, [
 use Rattle.std.specs.Prelude.{Result, Ok, Err}
 use Rattle.std.specs.List.{AllByRecursion}
 use Rattle.std.proofs.lemmas.List.{drop_more}
+use Rattle.std.proofs.Math.ListN.{drop_of_length-le}
 use Rattle.quad_field.specs.FieldNumber.{IsFieldNumber}
 use Rattle.surface_text.specs.declared.file.Point.{Point}
 use Rattle.surface_text.specs.Limits.{IsBasePoint}
@@ -11,11 +12,10 @@ use Rattle.tri_core.specs.Triangulation.{Triangulation, IsTriangulation}
 use Rattle.hinge_form.proofs.CallerLemmas.{place_inside}
 use Rattle.delaunay_flip.specs.Bases.{Ending, EndsAt, EndsListed, IsDecisive}
 use Rattle.delaunay_flip.specs.Bases.Ending.{strict, not_strict, flips_ended, wide}
-use Rattle.delaunay_flip.specs.Answers.{Says, IsForMemory, IsRight}
+use Rattle.delaunay_flip.specs.Answers.{Says, IsForMemory, IsRight, IsNotStrict}
 use Rattle.delaunay_flip.specs.declared.base.Base.{Base}
 use Rattle.delaunay_flip.specs.declared.base.BaseFault.{BaseFault}
 use Rattle.delaunay_flip.specs.declared.base.BaseFault.TheVariants.{NotStrict, FlipsEnded, Wide, Memory}
-use Rattle.delaunay_flip.specs.Steps.{IsNotStrict}
 use Rattle.delaunay_flip.proofs.Endings.{EndsThere, one_ending}
 
 -- an answer that says an edge of value zero, and one that doesn't
@@ -52,7 +52,7 @@ module _ (tri : Triangulation) (most : ℕ) where
   EndsAs points rest = (at : Point) (e : Ending) → EndsListed tri.field tri.halves rest most at e → EndsListed tri.field tri.halves points most at e
 
   -- where the first point of more than one isn't strict, the list ends as the rest
-  pub ends_later : (points : List Point) (point next : Point) (rest : List Point) (answer : Result Base BaseFault) → EndsAs points (point ∷ next ∷ rest)
+  ends_later : (points : List Point) (point next : Point) (rest : List Point) (answer : Result Base BaseFault) → EndsAs points (point ∷ next ∷ rest)
       → IsRight tri (EndsThere tri point most) answer → IsNotStrict answer → EndsAs points (next ∷ rest)
   ends_later points point next rest answer from (inl (at, e, (same, ends), says)) weak to f later =
       let h = says_weak tri answer at e says weak in
@@ -60,14 +60,14 @@ module _ (tri : Triangulation) (most : ℕ) where
   ends_later points point next rest answer from (inr memory) weak to f later = absurd (memory_not_weak answer memory weak)
 
   -- a decisive answer at it stands
-  pub right_here : (points : List Point) (point next : Point) (rest : List Point) (answer : Result Base BaseFault) → EndsAs points (point ∷ next ∷ rest)
+  right_here : (points : List Point) (point next : Point) (rest : List Point) (answer : Result Base BaseFault) → EndsAs points (point ∷ next ∷ rest)
       → IsRight tri (EndsThere tri point most) answer → ¬ (IsNotStrict answer) → IsRight tri (EndsListed tri.field tri.halves points most) answer
   right_here points point next rest answer from (inl (at, e, (same, ends), says)) none =
       inl (at, e, from at e (inl (same, ends, says_decisive tri answer at e says none)), says)
   right_here points point next rest answer from (inr memory) none = inr memory
 
   -- the last point's answer stands
-  pub right_last : (points : List Point) (point : Point) (answer : Result Base BaseFault) → EndsAs points (point ∷ [])
+  right_last : (points : List Point) (point : Point) (answer : Result Base BaseFault) → EndsAs points (point ∷ [])
       → IsRight tri (EndsThere tri point most) answer → IsRight tri (EndsListed tri.field tri.halves points most) answer
   right_last points point answer from (inl (at, e, ends, says)) = inl (at, e, from at e ends, says)
   right_last points point answer from (inr memory) = inr memory
@@ -86,6 +86,13 @@ module _ (tri : Triangulation) (most : ℕ) where
       let second = drop_more points (i + 1) d (omega arith) in
       let both = drop_more points i d (omega arith) ∙ ap (λ rest. get_or points i d ∷ rest) second in
       right_here points (get_or points i d) (get_or points (i + 1) d) (drop (i + 1 + 1) points) answer (subst (EndsAs points) both from) right none
+
+  pub last_at : (points : List Point) (i j : ℕ) (d : Point) (answer : Result Base BaseFault) → i ≡ j → i + 1 ≡ length points → EndsAs points (drop i points)
+      → IsRight tri (EndsThere tri (get_or points j d) most) answer → IsRight tri (EndsListed tri.field tri.halves points most) answer
+  last_at points i j d answer e last from right =
+      let none : drop (i + 1) points ≡ [] = drop_of_length-le points (omega arith) in
+      let both = drop_more points i d (omega arith) ∙ ap (λ rest. get_or points i d ∷ rest) none in
+      right_last points (get_or points i d) answer (subst (EndsAs points) both from) (subst (λ k. IsRight tri (EndsThere tri (get_or points k d) most) answer) (sym e) right)
 
 -- over a list the flipping ends in one way
 pub one_listed : (d : ℕ) → IsFieldNumber d → (halves : List Half) → IsTriangulation d halves → (points : List Point) → AllByRecursion IsBasePoint points → (most : ℕ) (at to : Point) (e f : Ending)

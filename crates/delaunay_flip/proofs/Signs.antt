@@ -1,11 +1,14 @@
 -- The sign and the width of an edge's value, by its hinge triple.
-use Rattle.std.proofs.Common.{◌≡◌, ◌↔◌, ℕ, ◌≤◌, List, [], ◌∷◌, sym, ◌∙◌, ap, subst, inl, inr}
-use Rattle.std.specs.Prelude.{pos, ◌⊎◌}
+use Rattle.std.proofs.Common.{◌≡◌, ◌↔◌, ℕ, ◌≤◌, List, [], ◌∷◌, refl, sym, ◌∙◌, ap, subst, inl, inr}
+use Rattle.std.specs.Prelude.{pos, ◌⊎◌, Result, Ok, Err, IsOk, OnOk, IfErr}
+use Rattle.std.proofs.lemmas.Bool.{false≢true}
 use Rattle.rings.specs.Ring.{var, expr}
 use Rattle.rings.specs.Order.{Sign, is_zero, is_positive, is_negative}
 use Rattle.rings.specs.Forms.{value_at}
 use Rattle.rings.proofs.Solver.{identity}
 use Rattle.rings.proofs.Ordered.{factor_negative, factor_zero, product_negative, not_both_signs}
+use Rattle.quad_field.specs.declared.formula.Formula.TheVariants.{F8}
+use Rattle.quad_field.specs.declared.formula.Wide.{Wide}
 use Rattle.quad_field.specs.declared.quad.Quad.{Quad}
 use Rattle.quad_field.specs.FieldNumber.{IsFieldNumber}
 use Rattle.quad_field.specs.Quads.{quad, quad_ops, scaled, IsPositive, IsZero}
@@ -13,11 +16,13 @@ use Rattle.quad_field.proofs.CallerLemmas.{quad_ring, order_of, scaled_is, natur
 use Rattle.tri_core.specs.declared.half.Half.{Half}
 use Rattle.tri_core.specs.Triangulation.{IsTriangulation}
 use Rattle.tri_core.specs.Flips.{IsEdge}
-use Rattle.hinge_form.specs.Hinges.{Triple, hinge_value, of_form, of_place, value_of, ValueFits, IsHingeTriple, IsStrictAt}
+use Rattle.hinge_form.specs.Hinges.{Triple, TripleFits, hinge_value, of_form, of_place, value_of, ValueFits, IsHingeTriple, IsStrictAt}
 use Rattle.hinge_form.specs.declared.form.Form.{Form}
 use Rattle.hinge_form.specs.declared.place.Place3.{Place3}
-use Rattle.hinge_form.proofs.CallerLemmas.{value_multiple, one_triple}
-use Rattle.delaunay_flip.specs.Flipping.{IsNegative, IsZeroAt, IsDelaunay, TripleValueFits, ValueFitsAt}
+use Rattle.hinge_form.proofs.Hinged.{value_multiple}
+use Rattle.delaunay_flip.specs.Flipping.{IsNegative, IsZeroAt, IsValueAt, IsDelaunay}
+use Rattle.delaunay_flip.specs.Widths.{TripleValueFits, ValueFitsAt, EdgeFits, IsFirstWide}
+use Rattle.delaunay_flip.proofs.Triples.{one_triple, whole_positive}
 
 -- a positive multiple of v has the sign of v
 module _ (d : ℕ) (field : IsFieldNumber d) (g : ℕ) (some : 1 ≤ g) (v w : Quad) (is : w ≡ scaled (pos g) v) where
@@ -59,6 +64,15 @@ module _ (d : ℕ) (field : IsFieldNumber d) (halves : List Half) (valid : IsTri
   pub fits_by_triple : TripleValueFits d l q → ValueFitsAt d q halves h
   fits_by_triple fits m other = subst (λ x. TripleValueFits d x q) (one_triple d field halves valid h edge.0 l m hinge other) fits
 
+-- the same by the value, whatever triple it comes from
+module _ (d : ℕ) (field : IsFieldNumber d) (halves : List Half) (valid : IsTriangulation d halves) (h : ℕ) (edge : IsEdge halves h) (q : Triple) (v : Quad) (value : IsValueAt d q halves h v) where
+  pub negative_by_value : IsPositive d ((quad_ops d).neg v) ↔ IsNegative d q halves h
+  negative_by_value =
+      subst (λ x. IsPositive d ((quad_ops d).neg x) ↔ IsNegative d q halves h) (sym value.2) (negative_by_triple d field halves valid h edge value.0 value.1 q)
+
+  pub zero_by_value : IsZero v ↔ IsZeroAt d q halves h
+  zero_by_value = subst (λ x. IsZero x ↔ IsZeroAt d q halves h) (sym value.2) (zero_by_triple d field halves valid h edge value.0 value.1 q)
+
 -- an edge's value is negative, zero or positive
 pub sign_at : (d : ℕ) → IsFieldNumber d → (q : Triple) (halves : List Half) (h : ℕ) → IsEdge halves h
     → IsNegative d q halves h ⊎ (IsZeroAt d q halves h ⊎ IsPositive d (hinge_value d halves h q))
@@ -90,27 +104,21 @@ strict_not_zero d field q halves strict h z = (order_of d field).zero_is_not (su
 pub negative_not_positive : (d : ℕ) → IsFieldNumber d → (q : Triple) (halves : List Half) (h : ℕ) → IsNegative d q halves h → ¬ (IsPositive d (hinge_value d halves h q))
 negative_not_positive d field q halves h n p = not_both_signs (quad_ops d) (quad_ring d) (order_of d field) (hinge_value d halves h q) p n.1
 
--- the same of the values that code computes, where the field has another name
+-- the value that code computes, where the field has another name
 module _ (fd d : ℕ) (same : fd ≡ d) (field : IsFieldNumber fd) (halves : List Half) (valid : IsTriangulation d halves) (h : ℕ) (edge : IsEdge halves h)
     (form : Form) (hinge : IsHingeTriple d halves h (of_form form)) (at : Place3) where
-  here : IsFieldNumber d
-  here = subst IsFieldNumber same field
+  seen_fits : ValueFits fd form at → ValueFitsAt d (of_place at) halves h
+  seen_fits fits = fits_by_triple d (subst IsFieldNumber same field) halves valid h edge (of_form form) hinge (of_place at) (subst (λ x. ValueFits x form at) same fits)
 
-  pub seen_negative : (S : Type 0) (v : Quad) → v ≡ value_of fd form at → S ↔ IsPositive fd ((quad_ops fd).neg v) → S ↔ IsNegative d (of_place at) halves h
-  seen_negative S v e both =
-      let there : S ↔ IsPositive d ((quad_ops d).neg (value_of d form at)) =
-      subst (λ x. S ↔ IsPositive d ((quad_ops d).neg (value_of x form at))) same (subst (λ x. S ↔ IsPositive x ((quad_ops x).neg (value_of fd form at))) same (subst (λ x. S ↔ IsPositive fd ((quad_ops fd).neg x)) e both)) in
-      let by = negative_by_triple d here halves valid h edge (of_form form) hinge (of_place at) in
-      (λ s. by.0 (there.0 s), λ n. there.1 (by.1 n))
-
-  pub seen_zero : (S : Type 0) (v : Quad) → v ≡ value_of fd form at → S ↔ IsZero v → S ↔ IsZeroAt d (of_place at) halves h
-  seen_zero S v e both =
-      let there : S ↔ IsZero (value_of d form at) = subst (λ x. S ↔ IsZero (value_of x form at)) same (subst (λ x. S ↔ IsZero x) e both) in
-      let by = zero_by_triple d here halves valid h edge (of_form form) hinge (of_place at) in
-      (λ s. by.0 (there.0 s), λ n. there.1 (by.1 n))
-
-  pub seen_fits : ValueFits fd form at → ValueFitsAt d (of_place at) halves h
-  seen_fits fits = fits_by_triple d here halves valid h edge (of_form form) hinge (of_place at) (subst (λ x. ValueFits x form at) same fits)
-
-  pub seen_wide : ¬ (ValueFits fd form at) → ¬ (ValueFitsAt d (of_place at) halves h)
+  seen_wide : ¬ (ValueFits fd form at) → ¬ (ValueFitsAt d (of_place at) halves h)
   seen_wide wide fits = wide (subst (λ x. ValueFits x form at) (sym same) (fits (of_form form) hinge))
+
+  -- and what its answer says of the edge
+  pub answer_fits : (r : Result Quad Wide) → TripleFits d halves h → (IsOk r ↔ ValueFits fd form at) → OnOk r (EdgeFits d (of_place at) halves h)
+  answer_fits (Ok v) triple both = (triple, seen_fits (both.0 refl))
+  answer_fits (Err e) triple both = _
+
+  pub answer_wide : (r : Result Quad Wide) → TripleFits d halves h → (IsOk r ↔ ValueFits fd form at) → IfErr r (λ wide. wide.formula ≡ F8)
+      → IfErr r (λ wide. IsFirstWide d (of_place at) halves h wide.formula)
+  answer_wide (Ok v) triple both is = _
+  answer_wide (Err e) triple both is = inr (is, triple, seen_wide (λ fits. absurd (false≢true (both.1 fits))))

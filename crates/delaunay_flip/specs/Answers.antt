@@ -1,5 +1,5 @@
 -- What the calls of this crate answer.
-use Rattle.std.specs.Prelude.{◌≡◌, ◌⊎◌, Result, MatchResult}
+use Rattle.std.specs.Prelude.{◌≡◌, ◌⊎◌, ℕ, Result, MatchResult}
 use Rattle.surface_text.specs.declared.file.Point.{Point}
 use Rattle.tri_core.specs.Triangulation.{Triangulation}
 use Rattle.delaunay_flip.specs.declared.base.Base.{Base}
@@ -26,3 +26,7 @@ IsRight tri Ends answer = ((at : Point) × (ending : Ending) × Ends at ending �
 -- and whatever ending is so, the answer says it, unless memory ran out
 abbrev pub IsComplete : Triangulation → (Point → Ending → Type 0) → Result Base BaseFault → Type 0
 IsComplete tri Ends answer = (at : Point) (ending : Ending) → Ends at ending → Says tri answer at ending ⊎ IsForMemory answer
+
+-- the answer names an edge of value zero
+abbrev pub IsNotStrict : Result Base BaseFault → Type 0
+IsNotStrict answer = MatchResult answer (λ base. ⊥) (λ fault. (h : ℕ) × (fault ≡ NotStrict h))

@@ -1,41 +1,42 @@
--- What a triangulation's base is at a point, and over a list of points.
+-- How the flipping of a triangulation ends at a point, and over a list of points.
 use Rattle.std.specs.Prelude.{◌≡◌, ℕ, ◌<◌, ◌≤◌, ◌⊎◌, List, [], ◌∷◌, ⊤}
 use Rattle.quad_field.specs.declared.formula.Formula.{Formula}
 use Rattle.surface_text.specs.declared.file.Point.{Point}
 use Rattle.tri_core.specs.declared.half.Half.{Half}
-use Rattle.hinge_form.specs.Hinges.{place_at, IsStrictAt}
-use Rattle.delaunay_flip.specs.Flipping.{IsNegative, IsZeroAt, IsLeast, IsDelaunay, AfterFlips, EdgesFit, FitsBefore, IsWideAt}
+use Rattle.hinge_form.specs.Hinges.{Triple, place_at, IsStrictAt}
+use Rattle.delaunay_flip.specs.Flipping.{IsNegative, IsZeroAt, IsLeast, IsDelaunay, AfterFlips}
+use Rattle.delaunay_flip.specs.Widths.{EdgesFit, FitsBefore, IsWideAt}
 
--- how the flipping of a triangulation at a point ends, with at most so many flips
+-- how the flipping of a triangulation at a point ends
 pub data Ending : Type 0 where
-  -- a strict triangulation, after this many flips
+  -- in this strict triangulation, after this many flips
   strict : List Half → ℕ → Ending
-  -- a triangulation without a negative value, that isn't strict: the least edge of value zero
+  -- in a triangulation without a negative value that isn't strict: the least edge of value zero
   not_strict : ℕ → Ending
-  -- a negative value is left after all flips
+  -- with a negative value that is left after all flips
   flips_ended : Ending
-  -- the formula is wide, after this many flips, at this edge
+  -- with a wide formula, after this many flips, at this edge
   wide : Formula → ℕ → ℕ → Ending
 
--- flipping at this point, at most `most` times, ends so
-abbrev pub EndsAt : ℕ → List Half → Point → ℕ → Ending → Type 0
-EndsAt d halves at most (Ending.strict later n) =
-    (n ≤ most) × AfterFlips d (place_at at) n halves later × FitsBefore d (place_at at) halves n × EdgesFit d (place_at at) later
-    × IsStrictAt d later (place_at at)
-EndsAt d halves at most (Ending.not_strict h) =
-    (n : ℕ) × (later : List Half)
-    × (n ≤ most) × AfterFlips d (place_at at) n halves later × FitsBefore d (place_at at) halves n × EdgesFit d (place_at at) later
-    × IsDelaunay d (place_at at) later × IsLeast (IsZeroAt d (place_at at) later) h
-EndsAt d halves at most Ending.flips_ended =
-    (later : List Half) × (h : ℕ)
-    × AfterFlips d (place_at at) most halves later × FitsBefore d (place_at at) halves most × EdgesFit d (place_at at) later
-    × IsNegative d (place_at at) later h
-EndsAt d halves at most (Ending.wide formula n h) =
-    (later : List Half)
-    × (n ≤ most) × AfterFlips d (place_at at) n halves later × FitsBefore d (place_at at) halves n
-    × IsWideAt d (place_at at) later (n < most) formula h
+-- `later` comes of `halves` by n of at most `most` flips, and nothing is wide before it
+pub record Comes (d : ℕ) (q : Triple) (halves : List Half) (most n : ℕ) (later : List Half) : Type 0 where
+  pub within : n ≤ most
+  pub after : AfterFlips d q n halves later
+  pub fits : FitsBefore d q halves n
 
--- an ending that isn't a triangulation without negative values that isn't strict
+-- after n of at most `most` flips the flipping stops at `later`, with this ending
+abbrev pub Stops : ℕ → Triple → ℕ → ℕ → List Half → Ending → Type 0
+Stops d q most n later (Ending.strict last m) = (last ≡ later) × (m ≡ n) × EdgesFit d q later × IsStrictAt d later q
+Stops d q most n later (Ending.not_strict h) = EdgesFit d q later × IsDelaunay d q later × IsLeast (IsZeroAt d q later) h
+Stops d q most n later Ending.flips_ended = (n ≡ most) × EdgesFit d q later × ((h : ℕ) × IsNegative d q later h)
+Stops d q most n later (Ending.wide formula m h) = (m ≡ n) × IsWideAt d q later (n < most) formula h
+
+-- flipping at this point, at most `most` times, ends so: some triangulation comes of the flips, and the flipping stops there
+abbrev pub EndsAt : ℕ → List Half → Point → ℕ → Ending → Type 0
+EndsAt d halves at most ending =
+    (n : ℕ) × (later : List Half) × Comes d (place_at at) halves most n later × Stops d (place_at at) most n later ending
+
+-- an ending other than in a triangulation without negative values that isn't strict
 abbrev pub IsDecisive : Ending → Type 0
 IsDecisive (Ending.not_strict h) = ⊥
 IsDecisive other = ⊤

@@ -1,5 +1,9 @@
 pub mod Flipping
+pub mod Widths
 pub mod Bases
 pub mod Answers
 pub mod Points
-pub mod Steps
+pub mod Keeping
+pub mod Faults
+pub mod Words
+pub mod Tables

@@ -3,12 +3,16 @@
 
 mod base;
 mod bases;
+mod edge_set;
+mod edge_values;
 mod edges;
+mod kept;
+pub mod laws;
 mod points;
-mod steps;
 
 pub use base::{Base, BaseFault};
 pub use bases::{base_listed, base_of};
+pub use kept::{Kept, KeptFault};
 pub use points::standard_points;
 
 #[cfg(test)]

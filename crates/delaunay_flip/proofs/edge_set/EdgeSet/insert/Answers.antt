@@ -1,0 +1,9 @@
+use Rattle.std.proofs.Common.{arith}
+use Rattle.delaunay_flip.proofs.Sets.{inserted, inserted_other}
+use Rattle.delaunay_flip.proofs.edge_set.EdgeSet.insert.Goals as goal
+
+pub returns-clause-this : goal.returns-clause-this
+returns-clause-this c = inserted c.args.self.now.words c.args.h (omega arith)
+
+pub returns-clause-others : goal.returns-clause-others
+returns-clause-others c = inserted_other c.args.self.now.words c.args.h (omega arith)
