@@ -4,8 +4,14 @@ use Rattle.std.specs.Prelude.{ℤ, pos, negsuc, ◌⊎◌}
 use Rattle.std.proofs.lemmas.Bool.{cases_eq, cases_lt}
 use Rattle.std.proofs.lemmas.Int.{ints}
 use Rattle.quad_field.specs.declared.quad.Quad.{Quad}
-use Rattle.quad_field.specs.Width.{Term, number, sum, difference, product, negation, scaling, conjugate, value_of, FitsI128, PartsFit, AllFit, product_steps, StepsFit}
-use Rattle.plane.specs.Vectors.{Vector, VectorFits}
+use Rattle.quad_field.specs.Width.{Term, term_ops, number, sum, difference, product, negation, scaling, conjugate, value_of, FitsI128, PartsFit, AllFit, product_steps, StepsFit}
+use Rattle.rings.specs.Forms.{value_at, hinge_triple}
+use Rattle.plane.specs.Vectors.{Vector, vector_sum, opposite_vector, vector_term, VectorFits}
+use Rattle.tri_core.specs.declared.half.Half.{Half}
+use Rattle.tri_core.specs.HalfEdges.{half_at, next_of}
+use Rattle.tri_core.specs.Flips.{DiagonalFits, previous_of_twin}
+use Rattle.hinge_form.specs.Triples.{Triple, leaves}
+use Rattle.hinge_form.specs.Hinges.{hinge_a, hinge_c, hinge_d, vector_leaves, TripleFits, PlaceFits}
 use Rattle.delaunay_flip.specs.Flipping.{IsLeast}
 
 -- so, or not so
@@ -50,7 +56,7 @@ all_or_not : (ns : List ℤ) → IsDecided (AllFit ns)
 all_or_not [] = inl _
 all_or_not (n ∷ ns) = both (fits_or_not n) (all_or_not ns)
 
-pub steps_or_not : (d : ℕ) (t : Term) → IsDecided (StepsFit d t)
+steps_or_not : (d : ℕ) (t : Term) → IsDecided (StepsFit d t)
 steps_or_not d (number x) = inl _
 steps_or_not d (sum s t) = three (steps_or_not d s) (steps_or_not d t) (parts_or_not (value_of d (sum s t)))
 steps_or_not d (difference s t) = three (steps_or_not d s) (steps_or_not d t) (parts_or_not (value_of d (difference s t)))
@@ -59,11 +65,22 @@ steps_or_not d (negation s) = both (steps_or_not d s) (parts_or_not (value_of d 
 steps_or_not d (scaling k s) = both (steps_or_not d s) (parts_or_not (value_of d (scaling k s)))
 steps_or_not d (conjugate s) = both (steps_or_not d s) (fits_or_not (value_of d (conjugate s)).b)
 
-pub three_or_not : (d : ℕ) (l : Term × Term × Term) → IsDecided (StepsFit d l.0 × StepsFit d l.1 × StepsFit d l.2)
-three_or_not d l = three (steps_or_not d l.0) (steps_or_not d l.1) (steps_or_not d l.2)
+-- the width of an edge's triple, of a triple's value, and of the new diagonal
+pub triple_or_not : (d : ℕ) (halves : List Half) (h : ℕ) → IsDecided (TripleFits d halves h)
+triple_or_not d halves h =
+    let l = hinge_triple term_ops (vector_leaves (hinge_a halves h)) (vector_leaves (hinge_c d halves h)) (vector_leaves (hinge_d halves h)) in
+    three (steps_or_not d l.0) (steps_or_not d l.1) (steps_or_not d l.2)
 
-pub vector_or_not : (d : ℕ) (u : Vector Term) → IsDecided (VectorFits d u)
+pub place_or_not : (d : ℕ) (l q : Triple) → IsDecided (PlaceFits d l q)
+place_or_not d l q = steps_or_not d (value_at term_ops (leaves l) (leaves q))
+
+vector_or_not : (d : ℕ) (u : Vector Term) → IsDecided (VectorFits d u)
 vector_or_not d u = both (steps_or_not d u.0) (steps_or_not d u.1)
+
+pub diagonal_or_not : (d : ℕ) (halves : List Half) (h : ℕ) → IsDecided (DiagonalFits d halves h)
+diagonal_or_not d halves h =
+    let diagonal = vector_sum term_ops (vector_term (half_at halves (previous_of_twin halves h)).vec) (vector_term (half_at halves (next_of h)).vec) in
+    both (vector_or_not d diagonal) (vector_or_not d (opposite_vector term_ops diagonal))
 
 -- ---- the least number with a property below a bound, or none
 module _ (P : ℕ → Type 0) (decided : (k : ℕ) → IsDecided (P k)) where

@@ -9,7 +9,7 @@ use Rattle.tri_core.specs.declared.half.Half.{Half}
 use Rattle.tri_core.specs.Triangulation.{IsTriangulation}
 use Rattle.tri_core.specs.Flips.{IsStrictlyConvex, IsFlip, DiagonalFits, IsEdge}
 use Rattle.hinge_form.specs.Hinges.{Triple, IsHalfPlanePoint}
-use Rattle.hinge_form.proofs.Hinged.{convex_at}
+use Rattle.hinge_form.proofs.CallerLemmas.{convex_at}
 use Rattle.delaunay_flip.specs.Flipping.{IsNegative, IsZeroAt, IsLeast, IsLeastOrNone, IsNextFlip}
 use Rattle.delaunay_flip.specs.Widths.{EdgesFit, FlipFits, IsWideEdge, IsWideFlip}
 use Rattle.delaunay_flip.specs.Words.{Holds}

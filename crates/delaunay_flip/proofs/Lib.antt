@@ -11,3 +11,6 @@ pub mod Listing
 pub mod Finding
 pub mod Deciding
 pub mod Existing
+pub mod Contents
+pub mod Ends
+pub mod CallerLemmas

@@ -16,13 +16,12 @@ use Rattle.quad_field.proofs.CallerLemmas.{quad_ring, order_of, scaled_is, natur
 use Rattle.tri_core.specs.declared.half.Half.{Half}
 use Rattle.tri_core.specs.Triangulation.{IsTriangulation}
 use Rattle.tri_core.specs.Flips.{IsEdge}
-use Rattle.hinge_form.specs.Hinges.{Triple, TripleFits, hinge_value, of_form, of_place, value_of, ValueFits, IsHingeTriple, IsStrictAt}
+use Rattle.hinge_form.specs.Hinges.{Triple, TripleFits, PlaceFits, hinge_value, of_form, of_place, value_of, ValueFits, IsHingeTriple, IsStrictAt}
 use Rattle.hinge_form.specs.declared.form.Form.{Form}
 use Rattle.hinge_form.specs.declared.place.Place3.{Place3}
-use Rattle.hinge_form.proofs.Hinged.{value_multiple}
+use Rattle.hinge_form.proofs.CallerLemmas.{value_multiple, one_triple}
 use Rattle.delaunay_flip.specs.Flipping.{IsNegative, IsZeroAt, IsValueAt, IsDelaunay}
-use Rattle.delaunay_flip.specs.Widths.{TripleValueFits, ValueFitsAt, EdgeFits, IsFirstWide}
-use Rattle.delaunay_flip.proofs.Triples.{one_triple, whole_positive}
+use Rattle.delaunay_flip.specs.Widths.{ValueFitsAt, EdgeFits, IsFirstWide}
 
 -- a positive multiple of v has the sign of v
 module _ (d : ℕ) (field : IsFieldNumber d) (g : ℕ) (some : 1 ≤ g) (v w : Quad) (is : w ≡ scaled (pos g) v) where
@@ -61,8 +60,8 @@ module _ (d : ℕ) (field : IsFieldNumber d) (halves : List Half) (valid : IsTri
       (λ p. (edge, both.0 p), λ p. both.1 p.1)
 
   -- one triple's width is that of every triple
-  pub fits_by_triple : TripleValueFits d l q → ValueFitsAt d q halves h
-  fits_by_triple fits m other = subst (λ x. TripleValueFits d x q) (one_triple d field halves valid h edge.0 l m hinge other) fits
+  pub fits_by_triple : PlaceFits d l q → ValueFitsAt d q halves h
+  fits_by_triple fits m other = subst (λ x. PlaceFits d x q) (one_triple d field halves valid h edge.0 l m hinge other) fits
 
 -- the same by the value, whatever triple it comes from
 module _ (d : ℕ) (field : IsFieldNumber d) (halves : List Half) (valid : IsTriangulation d halves) (h : ℕ) (edge : IsEdge halves h) (q : Triple) (v : Quad) (value : IsValueAt d q halves h v) where
@@ -83,6 +82,15 @@ sign_at d field q halves h edge = go ((order_of d field).sign (hinge_value d hal
     go (is_positive p) = inr (inr p)
     go (is_negative p) = inl (edge, p)
 
+-- a zero value is neither negative nor positive
+pub zero_not_negative : (d : ℕ) → IsFieldNumber d → (q : Triple) (halves : List Half) (h : ℕ) → IsZeroAt d q halves h → ¬ (IsNegative d q halves h)
+zero_not_negative d field q halves h z n =
+    (order_of d field).zero_is_not
+    (subst (IsPositive d) (ap (quad_ops d).neg z.1 ∙ identity (quad_ops d) (quad_ring d) [] (expr.neg (expr.int (pos 0))) (expr.int (pos 0)) tt) n.1)
+
+pub zero_not_positive : (d : ℕ) → IsFieldNumber d → (q : Triple) (halves : List Half) (h : ℕ) → IsZeroAt d q halves h → ¬ (IsPositive d (hinge_value d halves h q))
+zero_not_positive d field q halves h z p = (order_of d field).zero_is_not (subst (IsPositive d) z.1 p)
+
 -- where no value is negative or zero, the triangulation is strict
 pub strict_where_none : (d : ℕ) → IsFieldNumber d → (q : Triple) (halves : List Half) → IsDelaunay d q halves → ((h : ℕ) → ¬ (IsZeroAt d q halves h)) → IsStrictAt d halves q
 strict_where_none d field q halves delaunay none h edge = elim (sign_at d field q halves h edge) [
@@ -98,7 +106,7 @@ pub strict_not_negative : (d : ℕ) → IsFieldNumber d → (q : Triple) (halves
 strict_not_negative d field q halves strict h n = not_both_signs (quad_ops d) (quad_ring d) (order_of d field) (hinge_value d halves h q) (strict h n.0) n.1
 
 pub strict_not_zero : (d : ℕ) → IsFieldNumber d → (q : Triple) (halves : List Half) → IsStrictAt d halves q → (h : ℕ) → ¬ (IsZeroAt d q halves h)
-strict_not_zero d field q halves strict h z = (order_of d field).zero_is_not (subst (IsPositive d) z.1 (strict h z.0))
+strict_not_zero d field q halves strict h z = zero_not_positive d field q halves h z (strict h z.0)
 
 -- a negative value isn't positive
 pub negative_not_positive : (d : ℕ) → IsFieldNumber d → (q : Triple) (halves : List Half) (h : ℕ) → IsNegative d q halves h → ¬ (IsPositive d (hinge_value d halves h q))

@@ -2,16 +2,16 @@
 use Rattle.std.proofs.Common.{◌≡◌, ◌≢◌, ◌⊎◌, ◌↔◌, ℕ, ◌<◌, ◌/◌, List, [], ◌∷◌, length, refl, sym, ◌∙◌, ap, subst, arith, inl, inr}
 use Rattle.std.proofs.lemmas.Bool.{cases_eq, cases_lt}
 use Rattle.rings.specs.Forms.{three_row_determinant, hinge_triple}
-use Rattle.quad_field.specs.declared.quad.Quad.{Quad}
 use Rattle.quad_field.specs.Quads.{quad_ops, IsPositive}
-use Rattle.quad_field.specs.Width.{Term, number, term_ops, StepsFit}
-use Rattle.plane.specs.Vectors.{Vector, opposite_vector}
+use Rattle.quad_field.specs.Width.{term_ops}
+use Rattle.plane.specs.Vectors.{opposite_vector}
 use Rattle.tri_core.specs.declared.half.Half.{Half}
 use Rattle.tri_core.specs.HalfEdges.{vector_at, twin_at, triangle_of, next_of, previous_of}
 use Rattle.tri_core.specs.Triangulation.{IsTriangulation}
 use Rattle.tri_core.specs.Flips.{IsEdge, IsFlip, IsOuter, number_after}
 use Rattle.tri_core.proofs.CallerLemmas.{side_next, side_previous, of_one_triangle, next_inside, previous_inside, twin_inside, number_same, number_of_next, number_of_previous, number_of_next_of_twin, number_of_previous_of_twin, Leaves, leaves}
-use Rattle.hinge_form.specs.Hinges.{Triple, hinge_a, hinge_c, hinge_d, hinge_value, full_triple, IsHingeTriple, TripleFits}
+use Rattle.hinge_form.specs.Hinges.{Triple, hinge_a, hinge_c, hinge_d, hinge_value, full_triple, IsHingeTriple, TripleFits, vector_leaves}
+use Rattle.hinge_form.specs.Triples.{IsReduced, AllThreeFit}
 use Rattle.delaunay_flip.specs.Flipping.{IsNegative, IsValueAt}
 use Rattle.delaunay_flip.specs.Widths.{ValueFitsAt, EdgeFits}
 use Rattle.delaunay_flip.specs.Tables.{IsRightAt, IsTable, IsTableBut, IsOf, IsOfSome, entry, sides_of}
@@ -25,14 +25,6 @@ pub record HasSameHinge (d : ℕ) (halves later : List Half) (k : ℕ) : Type 0 
   pub second : hinge_c d later k ≡ hinge_c d halves k
   pub third : hinge_d later k ≡ hinge_d halves k
 
--- a vector's coordinates as trees
-abbrev coordinates : Vector Quad → Vector Term
-coordinates u = (number u.0, number u.1)
-
--- no step of the triple of three vectors lies outside i128
-abbrev FitsAt : ℕ → Vector Quad → Vector Quad → Vector Quad → Type 0
-FitsAt d a c e = let l = hinge_triple term_ops (coordinates a) (coordinates c) (coordinates e) in StepsFit d l.0 × StepsFit d l.1 × StepsFit d l.2
-
 module _ (d : ℕ) (halves later : List Half) (k : ℕ) (same : HasSameHinge d halves later k) where
   -- so all that is said of its hinge is the same
   full_same : full_triple d later k ≡ full_triple d halves k
@@ -42,13 +34,13 @@ module _ (d : ℕ) (halves later : List Half) (k : ℕ) (same : HasSameHinge d h
   value_same q i = three_row_determinant (quad_ops d) q (same.first i) (same.second i) (same.third i)
 
   triple_to : (l : Triple) → IsHingeTriple d halves k l → IsHingeTriple d later k l
-  triple_to l t = record { divisor = t.divisor; taken_out = full_same ∙ t.taken_out; reduced = t.reduced }
+  triple_to l t = subst (λ (full : Triple). IsReduced full l) (sym full_same) t
 
   triple_from : (l : Triple) → IsHingeTriple d later k l → IsHingeTriple d halves k l
-  triple_from l t = record { divisor = t.divisor; taken_out = sym full_same ∙ t.taken_out; reduced = t.reduced }
+  triple_from l t = subst (λ (full : Triple). IsReduced full l) full_same t
 
   width_same : TripleFits d later k ≡ TripleFits d halves k
-  width_same i = FitsAt d (same.first i) (same.second i) (same.third i)
+  width_same i = AllThreeFit d (hinge_triple term_ops (vector_leaves (same.first i)) (vector_leaves (same.second i)) (vector_leaves (same.third i)))
 
   module _ (q : Triple) where
     fits_same : EdgeFits d q halves k → EdgeFits d q later k

@@ -1,21 +1,15 @@
 -- Where a step of the flipping lies outside 128 bits.
 use Rattle.std.specs.Prelude.{◌≡◌, ◌⊎◌, ℕ, ◌<◌, List}
-use Rattle.rings.specs.Forms.{value_at}
-use Rattle.quad_field.specs.Width.{number, term_ops, StepsFit}
 use Rattle.quad_field.specs.declared.formula.Formula.{Formula}
 use Rattle.quad_field.specs.declared.formula.Formula.TheVariants.{F2, F8, F12}
 use Rattle.tri_core.specs.declared.half.Half.{Half}
 use Rattle.tri_core.specs.Flips.{IsEdge, DiagonalFits}
-use Rattle.hinge_form.specs.Hinges.{Triple, IsHingeTriple, TripleFits}
+use Rattle.hinge_form.specs.Hinges.{Triple, IsHingeTriple, TripleFits, PlaceFits}
 use Rattle.delaunay_flip.specs.Flipping.{IsNegative, IsLeast, AfterFlips}
-
--- no step of a triple's value at a place lies outside i128
-abbrev pub TripleValueFits : ℕ → Triple → Triple → Type 0
-TripleValueFits d l q = StepsFit d (value_at term_ops (number l.0, number l.1, number l.2) (number q.0, number q.1, number q.2))
 
 -- no step of the value of the hinge triple of h lies outside i128
 abbrev pub ValueFitsAt : ℕ → Triple → List Half → ℕ → Type 0
-ValueFitsAt d q halves h = (l : Triple) → IsHingeTriple d halves h l → TripleValueFits d l q
+ValueFitsAt d q halves h = (l : Triple) → IsHingeTriple d halves h l → PlaceFits d l q
 
 -- edge h fits: no step of its hinge triple and of its value lies outside i128
 abbrev pub EdgeFits : ℕ → Triple → List Half → ℕ → Type 0

@@ -3,9 +3,10 @@
 ghost use Rattle.std.specs.Prelude.{◌≡◌, ◌<◌, IfOk};
 ghost use Rattle.surface_text.specs.Limits.{IsBasePoint};
 
-use super::{Base, BaseFault, base_listed, base_of, standard_points};
+use super::{Base, BaseFault, Kept, base_listed, base_of, standard_points};
+use hinge_form::{hinge, place_of, value};
 use plane::Vec2;
-use quad_field::{Field, Formula, Quad};
+use quad_field::{Field, Formula, Quad, Sign};
 use std::alloc::Global;
 use std::test::Fail;
 use surface_text::Point;
@@ -110,6 +111,67 @@ fn flips_to(
     } else {
         Ok(None)
     }
+}
+
+/// Whether what is kept of a triangulation is what is found at its edges: their values, and the least edge of negative value.
+fn keeps_what_is(f: &Field, kept: &Kept, at: &Point) -> Result<bool, Fail>
+    requires field { f.now ≡ kept.now.tri.field }
+    requires point { IsBasePoint at.now }
+{
+    let tri = kept.tri();
+    let place = place_of(at);
+    let mut least = None;
+    for h in 0..3 * tri.triangles() {
+        if !tri.is_edge(h) {
+            continue;
+        }
+        let v = value(f, &hinge(f, tri, h)?, &place)?;
+        if kept.value(h) != v {
+            return Ok(false);
+        }
+        if least.is_none() && f.sign(v) == Sign::Minus {
+            least = Some(h);
+        }
+    }
+    Ok(kept.least() == least)
+}
+
+/// How many flips there are to the last of these half-edges, where at each of them what is kept is what is found.
+fn kept_flips(
+    alloc: Global,
+    f: &Field,
+    rows: &[Row; 6],
+    at: &Point,
+    last: &[Row; 6],
+) -> Result<Option<u32>, Fail>
+    requires { IsBasePoint at.now }
+{
+    let tri = torus(alloc, f, rows, ONE)?;
+    let mut kept = Kept::start(alloc, f, &tri, at)?;
+    for flips in 0..9 {
+        if !keeps_what_is(f, &kept, at)? {
+            return Ok(None);
+        }
+        if kept.least().is_none() {
+            return Ok(has_rows(kept.tri(), last).then_some(flips));
+        }
+        kept = kept.flip(alloc, f)?;
+    }
+    Ok(None)
+}
+
+#[test]
+fn keeps_values_flip_by_flip(rt: HostRuntime) -> Result<(), Fail> {
+    let f = Field::make(2).ok_or("2 is square-free")?;
+    let alloc = rt.alloc();
+    let (first, second) = (standard_point(0), standard_point(1));
+    assert_eq!(rt; kept_flips(alloc, &f, &SQUARE, &first, &SQUARE)?, Some(0));
+    assert_eq!(rt; kept_flips(alloc, &f, &SQUARE, &second, &FLIPPED)?, Some(1));
+    assert_eq!(rt; kept_flips(alloc, &f, &SHEARED, &second, &SHEARED_FLIPPED)?, Some(5));
+    let tri = torus(alloc, &f, &SQUARE, ONE)?;
+    assert_eq!(rt; Kept::start(alloc, &f, &tri, &first)?.least(), None);
+    assert_eq!(rt; Kept::start(alloc, &f, &tri, &second)?.least(), Some(2));
+    Ok(())
 }
 
 #[test]

@@ -1,6 +1,6 @@
 use Rattle.std.proofs.Common.{◌+◌, refl, subst, arith}
 use Rattle.quad_field.specs.FieldNumber.{IsFieldNumber}
-use Rattle.hinge_form.proofs.Points.{place_inside}
+use Rattle.hinge_form.proofs.CallerLemmas.{place_inside}
 use Rattle.delaunay_flip.proofs.Finding.{least_some, least_none, right_not_kept, first_kept, right_ended, right_weak, right_strict, next_kept, right_not_flipped}
 use Rattle.delaunay_flip.proofs.bases.flipped.Goals as goal
 
