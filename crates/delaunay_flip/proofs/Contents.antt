@@ -36,13 +36,15 @@ content_of [] = (0, record { divides = λ i e less. absurd (omega arith); greate
 content_of (x ∷ xs) =
     let rest = content_of xs in
     let parts = gcd_of (unsigned_abs x.b) (unsigned_abs x.a) (unsigned_abs x.b) (omega arith) in
-    let all = gcd_of rest.0 parts.0 rest.0 (omega arith) in
-    (all.0, record {
-      divides = more all.0 x xs (dvd_trans all.0 all.1.0 parts.1.0, dvd_trans all.0 all.1.0 parts.1.1) (λ i e less. let both = rest.1.divides i e less in (dvd_trans all.0 all.1.1 both.0, dvd_trans all.0 all.1.1 both.1));
-      greatest = λ k divides.
-          let here : DividesParts k x = divides 0 x (omega arith) in
-          all.1.2 k (parts.1.2 k here.0 here.1) (rest.1.greatest k (λ i e less. divides (suc i) e (omega arith)));
-    })
+    let all = gcd_of rest.0 parts.0 rest.0 (omega arith) in (
+      all.0,
+      record {
+        divides = more all.0 x xs (dvd_trans all.0 all.1.0 parts.1.0, dvd_trans all.0 all.1.0 parts.1.1) (λ i e less. let both = rest.1.divides i e less in (dvd_trans all.0 all.1.1 both.0, dvd_trans all.0 all.1.1 both.1));
+        greatest = λ k divides.
+            let here : DividesParts k x = divides 0 x (omega arith) in
+            all.1.2 k (parts.1.2 k here.0 here.1) (rest.1.greatest k (λ i e less. divides (suc i) e (omega arith)));
+      },
+    )
   where
     more : (k : ℕ) (x : Quad) (xs : List Quad) → DividesParts k x → DividesAll k xs → DividesAll k (x ∷ xs)
     more k x xs here rest zero e less = here
@@ -75,14 +77,16 @@ some_reduced l some = go (content_of (l.0 ∷ l.1 ∷ l.2 ∷ []))
         let all = content.divides in
         let first = divided g l.0 (all 0 l.0 (omega arith)) in
         let second = divided g l.1 (all 1 l.1 (omega arith)) in
-        let third = divided g l.2 (all 2 l.2 (omega arith)) in
-        ((quotient g l.0, quotient g l.1, quotient g l.2), record {
-          divisor = g;
-          taken_out = λ i. (first i, second i, third i);
-          reduced =
-              primitive_left g (l.0 ∷ l.1 ∷ l.2 ∷ []) (quotient g l.0 ∷ quotient g l.1 ∷ quotient g l.2 ∷ []) (omega arith) content.greatest
-              (λ i. first i ∷ second i ∷ third i ∷ []);
-        })
+        let third = divided g l.2 (all 2 l.2 (omega arith)) in (
+          (quotient g l.0, quotient g l.1, quotient g l.2),
+          record {
+            divisor = g;
+            taken_out = λ i. (first i, second i, third i);
+            reduced =
+                primitive_left g (l.0 ∷ l.1 ∷ l.2 ∷ []) (quotient g l.0 ∷ quotient g l.1 ∷ quotient g l.2 ∷ []) (omega arith) content.greatest
+                (λ i. first i ∷ second i ∷ third i ∷ []);
+          },
+        )
 
 -- an edge has a hinge triple
 pub some_triple : (d : ℕ) → IsFieldNumber d → (halves : List Half) → IsTriangulation d halves → (h : ℕ) → h < length halves → (l : Triple) × IsHingeTriple d halves h l

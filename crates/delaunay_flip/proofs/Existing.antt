@@ -95,10 +95,13 @@ module _ (d : ℕ) (halves : List Half) (h : ℕ) (valid : IsTriangulation d hal
   twins_there k inside = ap (λ x. x.twin) (at_number (number_after h g k) (within k inside)) ∙ ap (λ m. number_after h g (twin_at halves m)) (number_back h g k apart.apart)
 
   pub some_flip : (later : List Half) × IsFlip d halves h later
-  some_flip = (later, record {
-    count = length-map-range_with_len half_after 0 (length halves);
-    diagonal = diagonal_there;
-    opposite = opposite_there ∙ ap (opposite_vector (quad_ops d)) (sym diagonal_there);
-    vectors = vectors_there;
-    twins = twins_there;
-  })
+  some_flip = (
+    later,
+    record {
+      count = length-map-range_with_len half_after 0 (length halves);
+      diagonal = diagonal_there;
+      opposite = opposite_there ∙ ap (opposite_vector (quad_ops d)) (sym diagonal_there);
+      vectors = vectors_there;
+      twins = twins_there;
+    },
+  )

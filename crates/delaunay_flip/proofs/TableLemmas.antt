@@ -163,6 +163,6 @@ module _ (d : ℕ) (q : Triple) (halves : List Half) where
       | inl of ↦ renewed.here k of
       | inr out ↦
           right_kept earlier later k (renewed.entries k out) (renewed.sets k out)
-              (but.right k (λ some. elim some [ inl of ↦ out of | inr of ↦ left of ]))
+          (but.right k (λ some. elim some [ inl of ↦ out of | inr of ↦ left of ]))
     ];
   }

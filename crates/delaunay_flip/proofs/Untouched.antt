@@ -164,7 +164,7 @@ module _ (d : ℕ) (halves : List Half) (h : ℕ) (later : List Half) (valid : I
       | inl below ↦ right_same d halves later k (hinge_same k below out) q table (all.right k (λ none. none))
       | inr past ↦
           right_no_edge d q later table k (λ e. let inside = subst (λ n. k < n) left.count e.0 in omega arith)
-              (λ held. let inside = ((all.right k (λ none. none)).negative.0 held).0.0 in omega arith)
+          (λ held. let inside = ((all.right k (λ none. none)).negative.0 held).0.0 in omega arith)
     ];
   }
 

@@ -38,7 +38,12 @@ pub struct Kept {
 }
 
 /// Flips the least edge of negative value, and has the values follow.
-fn flip_least(f: &Field, tri: &mut Tri, at: &Place3, values: &mut EdgeValues) -> Result<(), KeptFault>
+fn flip_least(
+    f: &Field,
+    tri: &mut Tri,
+    at: &Place3,
+    values: &mut EdgeValues,
+) -> Result<(), KeptFault>
     requires field { f.now ≡ tri.old.field }
     requires place { (d : ℕ) → IsFieldNumber d → IsHalfPlanePoint d (of_place at.now) }
     requires table { IsTable tri.old.field (of_place at.now) tri.old.halves values.old }

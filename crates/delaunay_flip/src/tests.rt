@@ -152,9 +152,9 @@ fn kept_flips(
         if !keeps_what_is(f, &kept, at)? {
             return Ok(None);
         }
-        if kept.least().is_none() {
+        let Some(_edge) = kept.least() else {
             return Ok(has_rows(kept.tri(), last).then_some(flips));
-        }
+        };
         kept = kept.flip(alloc, f)?;
     }
     Ok(None)
@@ -167,7 +167,10 @@ fn keeps_values_flip_by_flip(rt: HostRuntime) -> Result<(), Fail> {
     let (first, second) = (standard_point(0), standard_point(1));
     assert_eq!(rt; kept_flips(alloc, &f, &SQUARE, &first, &SQUARE)?, Some(0));
     assert_eq!(rt; kept_flips(alloc, &f, &SQUARE, &second, &FLIPPED)?, Some(1));
-    assert_eq!(rt; kept_flips(alloc, &f, &SHEARED, &second, &SHEARED_FLIPPED)?, Some(5));
+    assert_eq!(rt;
+        kept_flips(alloc, &f, &SHEARED, &second, &SHEARED_FLIPPED)?,
+        Some(5)
+    );
     let tri = torus(alloc, &f, &SQUARE, ONE)?;
     assert_eq!(rt; Kept::start(alloc, &f, &tri, &first)?.least(), None);
     assert_eq!(rt; Kept::start(alloc, &f, &tri, &second)?.least(), Some(2));
