@@ -1,6 +1,6 @@
 -- A triple that isn't zero has a greatest common divisor, which can be taken out: so every hinge triple is there.
-use Rattle.std.proofs.Common.{◌≡◌, ℕ, zero, suc, ◌%◌, ◌<◌, ◌≤◌, List, [], ◌∷◌, length, get_or, refl, sym, ◌∙◌, ap, subst, arith}
-use Rattle.std.specs.Prelude.{ℤ, pos, ◌*ℤ◌, unsigned_abs, map}
+use Rattle.std.proofs.Common.{◌≡◌, ℕ, zero, suc, ◌%◌, ◌<◌, ◌≤◌, List, [], ◌∷◌, length, refl, arith}
+use Rattle.std.specs.Prelude.{ℤ, pos, unsigned_abs}
 use Rattle.std.specs.Int.{IsGcd}
 use Rattle.std.specs.Int.RustNames.{int_div}
 use Prim.Native.Nat.{◌∣◌}
@@ -14,7 +14,7 @@ use Rattle.quad_field.proofs.CallerLemmas.{exact_quotient}
 use Rattle.quad_field.proofs.Contents.{primitive_left}
 use Rattle.tri_core.specs.declared.half.Half.{Half}
 use Rattle.tri_core.specs.Triangulation.{IsTriangulation}
-use Rattle.hinge_form.specs.Triples.{Triple, zeros, times, IsReduced}
+use Rattle.hinge_form.specs.Triples.{Triple, zeros, IsReduced}
 use Rattle.hinge_form.specs.Hinges.{full_triple, IsHingeTriple}
 use Rattle.hinge_form.proofs.CallerLemmas.{full_some}
 

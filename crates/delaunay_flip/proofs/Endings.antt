@@ -1,13 +1,13 @@
 -- How the flipping ends: where it stops it doesn't go on, and it stops in one way.
-use Rattle.std.proofs.Common.{◌≡◌, ℕ, suc, ◌+◌, ◌<◌, ◌≤◌, List, refl, sym, ◌∙◌, ap, subst, arith, inl, inr}
-use Rattle.std.specs.Prelude.{◌⊎◌, Result, Ok, Err}
+use Rattle.std.proofs.Common.{◌≡◌, ℕ, suc, ◌+◌, ◌<◌, List, refl, sym, ◌∙◌, ap, subst, arith, inl, inr}
+use Rattle.std.specs.Prelude.{Result}
 use Rattle.std.proofs.lemmas.Bool.{cases_eq, cases_order}
 use Rattle.quad_field.specs.FieldNumber.{IsFieldNumber}
 use Rattle.quad_field.specs.declared.formula.Formula.{Formula}
 use Rattle.surface_text.specs.declared.file.Point.{Point}
 use Rattle.tri_core.specs.declared.half.Half.{Half}
 use Rattle.tri_core.specs.Triangulation.{Triangulation, IsTriangulation}
-use Rattle.hinge_form.specs.Hinges.{Triple, TripleFits, IsHalfPlanePoint, place_at}
+use Rattle.hinge_form.specs.Hinges.{Triple, IsHalfPlanePoint, place_at}
 use Rattle.delaunay_flip.specs.Flipping.{IsNegative, IsZeroAt, IsLeast, IsNextFlip, AfterFlips}
 use Rattle.delaunay_flip.specs.Widths.{EdgesFit, FlipFits, FitsBefore, IsFirstWide, IsWideEdge, IsWideAt}
 use Rattle.delaunay_flip.specs.Bases.{Ending, Comes, Stops, EndsAt}

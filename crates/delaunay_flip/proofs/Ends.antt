@@ -1,6 +1,6 @@
 -- The flipping ends: at each triangulation it stops or goes on, and it goes on no more often than it may.
 use Rattle.std.proofs.Common.{◌≡◌, ℕ, zero, suc, ◌+◌, ◌<◌, ◌≤◌, List, [], ◌∷◌, length, refl, subst, arith, inl, inr}
-use Rattle.std.specs.Prelude.{pos, ◌⊎◌}
+use Rattle.std.specs.Prelude.{◌⊎◌}
 use Rattle.std.specs.List.{AllByRecursion}
 use Rattle.std.proofs.lemmas.Bool.{cases_lt}
 use Rattle.quad_field.specs.FieldNumber.{IsFieldNumber}
@@ -12,10 +12,10 @@ use Rattle.tri_core.specs.declared.half.Half.{Half}
 use Rattle.tri_core.specs.HalfEdges.{twin_at}
 use Rattle.tri_core.specs.Triangulation.{IsTriangulation}
 use Rattle.tri_core.specs.Flips.{IsEdge, DiagonalFits}
-use Rattle.hinge_form.specs.Hinges.{Triple, IsHalfPlanePoint, TripleFits, place_at}
-use Rattle.hinge_form.proofs.CallerLemmas.{place_inside, one_triple}
-use Rattle.delaunay_flip.specs.Flipping.{IsNegative, IsZeroAt, IsLeast, IsDelaunay, IsNextFlip}
-use Rattle.delaunay_flip.specs.Widths.{ValueFitsAt, EdgeFits, EdgesFit, FlipFits, IsFirstWide}
+use Rattle.hinge_form.specs.Hinges.{Triple, IsHalfPlanePoint, place_at}
+use Rattle.hinge_form.proofs.CallerLemmas.{place_inside}
+use Rattle.delaunay_flip.specs.Flipping.{IsNegative, IsZeroAt, IsLeast, IsDelaunay}
+use Rattle.delaunay_flip.specs.Widths.{ValueFitsAt, EdgeFits, EdgesFit, IsFirstWide}
 use Rattle.delaunay_flip.specs.Bases.{Ending, Comes, Stops, EndsAt, EndsListed, IsDecisive}
 use Rattle.delaunay_flip.specs.Bases.Ending.{strict, not_strict, flips_ended, wide}
 use Rattle.delaunay_flip.proofs.Signs.{sign_at, negative_not_positive, strict_where_none, fits_by_triple, zero_not_negative, zero_not_positive}

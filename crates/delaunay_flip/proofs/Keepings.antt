@@ -1,6 +1,6 @@
 -- What the table of a kept triangulation says of it, before and after the flip of the least edge of negative value.
 use Rattle.std.proofs.Common.{◌≡◌, ℕ, List, ap, subst, inl, inr}
-use Rattle.std.specs.Prelude.{pos, ◌⊎◌, Option, Some, None}
+use Rattle.std.specs.Prelude.{pos, Option, Some, None}
 use Rattle.quad_field.specs.FieldNumber.{IsFieldNumber}
 use Rattle.quad_field.specs.Quads.{quad}
 use Rattle.quad_field.specs.declared.formula.Formula.{Formula}
@@ -10,13 +10,12 @@ use Rattle.tri_core.specs.Triangulation.{IsTriangulation}
 use Rattle.tri_core.specs.Flips.{IsStrictlyConvex, IsFlip, DiagonalFits, IsEdge}
 use Rattle.hinge_form.specs.Hinges.{Triple, IsHalfPlanePoint}
 use Rattle.hinge_form.proofs.CallerLemmas.{convex_at}
-use Rattle.delaunay_flip.specs.Flipping.{IsNegative, IsZeroAt, IsLeast, IsLeastOrNone, IsNextFlip}
-use Rattle.delaunay_flip.specs.Widths.{EdgesFit, FlipFits, IsWideEdge, IsWideFlip}
+use Rattle.delaunay_flip.specs.Flipping.{IsNegative, IsZeroAt, IsLeast, IsLeastOrNone}
+use Rattle.delaunay_flip.specs.Widths.{EdgesFit, FlipFits, IsWideEdge}
 use Rattle.delaunay_flip.specs.Words.{Holds}
 use Rattle.delaunay_flip.specs.Tables.{entry, IsTable, IsTableBut, sides_of}
 use Rattle.delaunay_flip.specs.Keeping.{IsNotFlipped}
 use Rattle.delaunay_flip.specs.declared.edge_values.EdgeValues.{EdgeValues}
-use Rattle.delaunay_flip.specs.declared.kept.KeptFault.{KeptFault}
 use Rattle.delaunay_flip.specs.declared.kept.KeptFault.TheVariants.{Wide}
 use Rattle.delaunay_flip.proofs.Signs.{negative_not_positive, zero_by_value}
 use Rattle.delaunay_flip.proofs.Flips.{one_least, flip_valid}

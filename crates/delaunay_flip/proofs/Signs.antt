@@ -16,7 +16,7 @@ use Rattle.quad_field.proofs.CallerLemmas.{quad_ring, order_of, scaled_is, natur
 use Rattle.tri_core.specs.declared.half.Half.{Half}
 use Rattle.tri_core.specs.Triangulation.{IsTriangulation}
 use Rattle.tri_core.specs.Flips.{IsEdge}
-use Rattle.hinge_form.specs.Hinges.{Triple, TripleFits, PlaceFits, hinge_value, of_form, of_place, value_of, ValueFits, IsHingeTriple, IsStrictAt}
+use Rattle.hinge_form.specs.Hinges.{Triple, TripleFits, PlaceFits, hinge_value, of_form, of_place, ValueFits, IsHingeTriple, IsStrictAt}
 use Rattle.hinge_form.specs.declared.form.Form.{Form}
 use Rattle.hinge_form.specs.declared.place.Place3.{Place3}
 use Rattle.hinge_form.proofs.CallerLemmas.{value_multiple, one_triple}

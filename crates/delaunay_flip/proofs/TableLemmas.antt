@@ -1,5 +1,5 @@
 -- Tables of the values of edges: filled from the least edge on, renewed at an edge, and what a flip leaves of them.
-use Rattle.std.proofs.Common.{◌≡◌, ◌≢◌, ◌↔◌, ℕ, ◌+◌, ◌<◌, ◌≤◌, List, [], ◌∷◌, length, slice_set, get_or, refl, sym, ◌∙◌, ap, subst, arith, inl, inr}
+use Rattle.std.proofs.Common.{◌≡◌, ◌≢◌, ◌↔◌, ℕ, ◌+◌, ◌<◌, ◌≤◌, List, ◌∷◌, length, get_or, sym, ◌∙◌, ap, subst, arith, inl, inr}
 use Rattle.std.specs.Prelude.{pos, ◌⊎◌, vec_len}
 use Rattle.std.proofs.lemmas.Bool.{cases_eq, cases_lt}
 use Rattle.std.proofs.lemmas.List.{get_or-set_same, get_or-set_other}
@@ -12,10 +12,10 @@ use Rattle.tri_core.specs.HalfEdges.{twin_at}
 use Rattle.tri_core.specs.Triangulation.{IsTriangulation}
 use Rattle.tri_core.specs.Flips.{IsEdge}
 use Rattle.hinge_form.specs.Hinges.{Triple}
-use Rattle.delaunay_flip.specs.Flipping.{IsNegative, IsValueAt, IsLeast}
+use Rattle.delaunay_flip.specs.Flipping.{IsValueAt}
 use Rattle.delaunay_flip.specs.Widths.{EdgeFits, IsFirstWide, IsWideEdge}
 use Rattle.delaunay_flip.specs.Words.{Holds}
-use Rattle.delaunay_flip.specs.Tables.{entry, IsRightAt, IsEntered, IsTable, IsTableBut, IsNamed, IsRenewed, IsOf, IsOfSome}
+use Rattle.delaunay_flip.specs.Tables.{entry, IsRightAt, IsEntered, IsTable, IsTableBut, IsNamed, IsRenewed, IsOf}
 use Rattle.delaunay_flip.specs.declared.edge_values.EdgeValues.{EdgeValues}
 use Rattle.delaunay_flip.proofs.Signs.{negative_by_value}
 

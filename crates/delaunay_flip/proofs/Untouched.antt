@@ -1,6 +1,6 @@
 -- What a flip leaves as it was: the edges that are no sides of its two triangles.
-use Rattle.std.proofs.Common.{◌≡◌, ◌≢◌, ◌⊎◌, ◌↔◌, ℕ, ◌<◌, ◌/◌, List, [], ◌∷◌, length, refl, sym, ◌∙◌, ap, subst, arith, inl, inr}
-use Rattle.std.proofs.lemmas.Bool.{cases_eq, cases_lt}
+use Rattle.std.proofs.Common.{◌≡◌, ◌≢◌, ◌↔◌, ℕ, ◌<◌, List, length, refl, sym, ◌∙◌, ap, subst, arith, inl, inr}
+use Rattle.std.proofs.lemmas.Bool.{cases_lt}
 use Rattle.rings.specs.Forms.{three_row_determinant, hinge_triple}
 use Rattle.quad_field.specs.Quads.{quad_ops, IsPositive}
 use Rattle.quad_field.specs.Width.{term_ops}
@@ -12,9 +12,9 @@ use Rattle.tri_core.specs.Flips.{IsEdge, IsFlip, IsOuter, number_after}
 use Rattle.tri_core.proofs.CallerLemmas.{side_next, side_previous, of_one_triangle, next_inside, previous_inside, twin_inside, number_same, number_of_next, number_of_previous, number_of_next_of_twin, number_of_previous_of_twin, Leaves, leaves}
 use Rattle.hinge_form.specs.Hinges.{Triple, hinge_a, hinge_c, hinge_d, hinge_value, full_triple, IsHingeTriple, TripleFits, vector_leaves}
 use Rattle.hinge_form.specs.Triples.{IsReduced, AllThreeFit}
-use Rattle.delaunay_flip.specs.Flipping.{IsNegative, IsValueAt}
-use Rattle.delaunay_flip.specs.Widths.{ValueFitsAt, EdgeFits}
-use Rattle.delaunay_flip.specs.Tables.{IsRightAt, IsTable, IsTableBut, IsOf, IsOfSome, entry, sides_of}
+use Rattle.delaunay_flip.specs.Flipping.{IsNegative}
+use Rattle.delaunay_flip.specs.Widths.{EdgeFits}
+use Rattle.delaunay_flip.specs.Tables.{IsRightAt, IsTable, IsTableBut, IsOf, IsOfSome, sides_of}
 use Rattle.delaunay_flip.specs.declared.edge_values.EdgeValues.{EdgeValues}
 use Rattle.delaunay_flip.proofs.TableLemmas.{right_no_edge}
 

@@ -14,7 +14,7 @@ use Rattle.gluing.proofs.CallerLemmas as gluing
 use Rattle.ear_cut.specs.Cuttings.{IsEarCutting}
 use Rattle.ear_cut.proofs.CallerLemmas.{one_cutting, triangulation}
 use Rattle.delaunay_flip.specs.Points.{standard_points}
-use Rattle.delaunay_flip.proofs.Fractions.{within}
+use Rattle.delaunay_flip.proofs.CallerLemmas.{within}
 use Rattle.answer_text.specs.declared.status.Status.{Status}
 use Rattle.answer_text.specs.declared.status.Status.TheVariants.{Done, File}
 use Rattle.command_words.specs.declared.command.Command.{Command}

@@ -8,7 +8,7 @@ use Rattle.tri_core.specs.declared.half.Half.{Half}
 use Rattle.tri_core.specs.Triangulation.{IsTriangulation}
 use Rattle.hinge_form.proofs.CallerLemmas.{place_inside}
 use Rattle.delaunay_flip.specs.Bases.{Ending, EndsAt, EndsListed, IsDecisive}
-use Rattle.delaunay_flip.proofs.Endings.{one_ending}
+use Rattle.delaunay_flip.proofs.CallerLemmas.{one_ending}
 
 module _ (d : ℕ) (field : IsFieldNumber d) (halves : List Half) (valid : IsTriangulation d halves) (most : ℕ) where
   -- at a base point the flipping ends in one way

@@ -5,7 +5,7 @@ use Rattle.std.specs.Prelude.{Some, None}
 use Rattle.quad_field.specs.FieldNumber.{IsFieldNumber}
 use Rattle.hinge_form.specs.Hinges.{of_place}
 use Rattle.delaunay_flip.specs.Widths.{IsWideEdge}
-use Rattle.delaunay_flip.specs.Tables.{IsTable, IsTableBut, sides_of}
+use Rattle.delaunay_flip.specs.Tables.{IsTableBut, sides_of}
 use Rattle.delaunay_flip.proofs.Keepings.{table_least, least_convex, least_fits, least_after, least_edge_after, wide_after, wide_flip}
 use Rattle.delaunay_flip.proofs.kept.flip_least.Goals as goal
 

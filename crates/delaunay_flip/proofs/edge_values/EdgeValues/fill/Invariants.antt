@@ -1,4 +1,3 @@
-use Rattle.std.proofs.Common.{◌≡◌, ℕ, ◌<◌, ◌≤◌, length, vec_len}
 use Rattle.hinge_form.specs.Hinges.{of_place}
 use Rattle.delaunay_flip.proofs.TableLemmas.{IsFilled}
 use Rattle.delaunay_flip.proofs.edge_values.EdgeValues.fill.Given as goal
