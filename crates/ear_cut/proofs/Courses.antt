@@ -12,7 +12,7 @@ use Rattle.tri_core.specs.HalfEdges.{no_half, twin_at}
 use Rattle.gluing.specs.Gluings.{Gluing, IsGluing, triangle_count, no_glue}
 use Rattle.ear_cut.specs.Cuttings.{Side, Piece, Origin, IsCut, AreCut, vectors_of, at, no_one, outer_sides, sides_of, ArePartners, IsEarCutting}
 use Rattle.ear_cut.specs.Cuttable.{IsCuttable}
-use Rattle.ear_cut.specs.Steps.{AreSmall, IsReady, AreCuttable, side_of, seen, origin_of, source_at, IsPolygonCut, ArePolygonsCut, IsSourceThere, HasSource, HasPartners, AreTwinsOf}
+use Rattle.ear_cut.specs.Steps.{AreSmall, IsReady, AreCuttable, side_of, seen, origin_of, source_at, IsPolygonCut, ArePolygonsCut, IsSourceThere}
 use Rattle.ear_cut.specs.declared.side.Edge.{Edge}
 use Rattle.ear_cut.proofs.Replaced.{each_at}
 use Rattle.ear_cut.proofs.Unique.{cut-more}
@@ -28,7 +28,7 @@ abbrev pub of : Polygon → List Vec2
 of polygon = polygon.sides.items
 
 -- ---- over polygons
-pub ready_at : (d : ℕ) (polygons : List Polygon) (p : ℕ) (x : Polygon) → p < length polygons → AreCuttable d (map of polygons) → IsReady d (of (get_or polygons p x))
+ready_at : (d : ℕ) (polygons : List Polygon) (p : ℕ) (x : Polygon) → p < length polygons → AreCuttable d (map of polygons) → IsReady d (of (get_or polygons p x))
 ready_at d polygons p x below ready =
     let inside : p < length (map of polygons) = omega (arith, length-map polygons of) in
     subst (IsReady d) (get_or-map of polygons p x [] below) (each_at (IsReady d) (map of polygons) p [] ready inside)
@@ -54,7 +54,7 @@ pub record IsOuter (d : ℕ) (sides : List Side) : Type 0 where
   pub small : AreSmall (vectors_of sides)
   pub cuttable : IsCuttable d (vectors_of sides)
 
-pub outer_ready : (d p : ℕ) (vs : List Vec2) (sides : List Side) → sides ≡ outer_sides p 0 vs → IsReady d vs → IsOuter d sides
+outer_ready : (d p : ℕ) (vs : List Vec2) (sides : List Side) → sides ≡ outer_sides p 0 vs → IsReady d vs → IsOuter d sides
 outer_ready d p vs sides e ready =
     let same : vectors_of sides ≡ map vector vs = ap vectors_of e ∙ outer_vectors p 0 vs in
     record {
@@ -62,6 +62,12 @@ outer_ready d p vs sides e ready =
       small = subst AreSmall (sym same) ready.small;
       cuttable = subst (IsCuttable d) (sym same) ready.cuttable;
     }
+
+-- the sides of polygon p
+pub outer_at : (d p : ℕ) (polygons : List Polygon) (x : Polygon) (vs : List Vec2) (sides : List Side) → p < length polygons → AreCuttable d (map of polygons)
+    → x ≡ get_or polygons p x → vs ≡ of x → sides ≡ outer_sides p 0 vs → IsOuter d sides
+outer_at d p polygons x vs sides below ready is_x is_vs is_sides =
+    outer_ready d p vs sides is_sides (subst (IsReady d) (sym (is_vs ∙ ap of is_x)) (ready_at d polygons p x below ready))
 
 pub polygons_more : (d p n : ℕ) (polygons : List Polygon) (x : Polygon) (vs : List Vec2) (sides before behind : List Side) → p < length polygons → vs ≡ of (get_or polygons p x) → sides ≡ outer_sides p 0 vs
     → ArePolygonsCut d (map of (take p polygons)) before → length before ≡ n → IsPolygonCut d (n / 3) sides before behind → ArePolygonsCut d (map of (take (p + 1) polygons)) behind
@@ -115,6 +121,21 @@ halves_more glues edges k e n halves more o below so_far pushed inside pair foun
     }
 
 -- ---- partners
+-- some side comes from there
+abbrev pub HasSource : List Side → Origin → Type 0
+HasSource sides origin = (h : ℕ) × (h < length sides) × (source_at sides h ≡ origin)
+
+-- each side is there, and its partners come from sides as well
+abbrev pub HasPartners : Gluing → List Side → Type 0
+HasPartners g sides =
+    (h : ℕ) → h < length sides
+    → IsSourceThere g.polygons (source_at sides h) × ((other : Origin) → ArePartners g.glues (source_at sides h) other → HasSource sides other)
+
+-- the twin of each half-edge comes from its partner
+abbrev pub AreTwinsOf : List Glue → List Side → List Half → Type 0
+AreTwinsOf glues sides halves =
+    (h : ℕ) → h < length sides → (twin_at halves h < length sides) × ArePartners glues (source_at sides h) (source_at sides (twin_at halves h))
+
 some_source : (o : Origin) (sides : List Side) → 1 ≤ count o sides → HasSource sides o
 some_source o sides some = count_some o sides some
 

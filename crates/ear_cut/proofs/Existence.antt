@@ -13,14 +13,14 @@ use Rattle.gluing.specs.Polygons.{no_vector}
 use Rattle.gluing.specs.Gluings.{Name, Gluing, IsGluing, first_of, second_of, names, AreTwins}
 use Rattle.ear_cut.specs.Cuttings.{Side, Piece, Origin, IsLeastEar, IsCut, AreCut, ArePartners, IsEarCutting, vectors_of, at, no_one, ear, left_over, outer_sides, sides_of}
 use Rattle.ear_cut.specs.Cuttable.{IsCuttable}
-use Rattle.ear_cut.specs.Steps.{AreCuttable, IsSourceThere, ArePolygonsCut, source_at, AreTwinsOf}
+use Rattle.ear_cut.specs.Steps.{AreCuttable, IsSourceThere, ArePolygonsCut, source_at}
 use Rattle.ear_cut.proofs.Replaced.{replaced-length}
 use Rattle.ear_cut.proofs.Ears.{some_least_ear, cuttable_left}
 use Rattle.ear_cut.proofs.Sided.{left_is, left_vectors}
 use Rattle.ear_cut.proofs.Labels.{outer_length}
 use Rattle.ear_cut.proofs.Triangles.{outer_vectors}
 use Rattle.ear_cut.proofs.Ready.{gluing_ready}
-use Rattle.ear_cut.proofs.Courses.{has_partners, cutting_from}
+use Rattle.ear_cut.proofs.Courses.{AreTwinsOf, has_partners, cutting_from}
 
 -- ---- polygons
 -- a polygon of n + 3 sides is cut into some triangles

@@ -6,7 +6,7 @@ use Rattle.plane.specs.declared.vec2.Vec2.{Vec2}
 use Rattle.surface_text.specs.Limits.{IsThere}
 use Rattle.gluing.specs.Gluings.{Gluing, IsGluing, triangle_count}
 use Rattle.ear_cut.specs.Cuttings.{Origin, Side, ArePartners, sides_of}
-use Rattle.ear_cut.specs.Steps.{seen, side_of, origin_of, source_at, HasSource, AreCuttable, ArePolygonsCut}
+use Rattle.ear_cut.specs.Steps.{seen, side_of, origin_of, source_at, AreCuttable, ArePolygonsCut}
 use Rattle.ear_cut.specs.declared.side.Edge.{Edge}
 use Rattle.ear_cut.specs.Slots.{side_count, slot_count, slot_in, AreFirstSlots, HasFirstSlot, AreSlots, ArePlaces}
 use Rattle.ear_cut.proofs.Replaced.{total-append}
@@ -14,7 +14,7 @@ use Rattle.ear_cut.proofs.Origins.{count, count_at, count_one, most_one, as_many
 use Rattle.ear_cut.proofs.Ready.{gluing_ready, piece_count}
 use Rattle.ear_cut.proofs.Triangulated.{sides_length}
 use Rattle.ear_cut.proofs.Seen.{seen_source}
-use Rattle.ear_cut.proofs.Courses.{has_partners, side_is_there}
+use Rattle.ear_cut.proofs.Courses.{HasSource, has_partners, side_is_there}
 
 -- ---- how many sides polygons have
 pub part_most : (polygons : List (List Vec2)) (p : ℕ) → side_count (take p polygons) ≤ side_count polygons

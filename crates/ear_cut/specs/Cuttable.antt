@@ -1,4 +1,4 @@
--- Polygons that can be cut: what stays true of a convex polygon while ears are cut off.
+-- Polygons that can be cut: what stays true of a convex polygon while ears are cut off; only private clauses cite it.
 use Rattle.std.specs.Prelude.{◌≡◌, ℕ, List, ◌++◌}
 use Rattle.std.specs.List.{AllByRecursion}
 use Rattle.quad_field.specs.Quads.{quad_ops, IsPositive}

@@ -1,17 +1,13 @@
 -- What the steps of the cutting give; only private clauses cite it.
-use Rattle.std.specs.Prelude.{◌≡◌, ℕ, ◌+◌, ◌%◌, ◌<◌, ◌≤◌, List, [], ◌∷◌, ◌++◌, length, map, unsigned_abs, ⊤}
+use Rattle.std.specs.Prelude.{◌≡◌, ℕ, ◌+◌, ◌%◌, ◌≤◌, List, [], ◌∷◌, ◌++◌, length, map, unsigned_abs, ⊤}
 use Rattle.std.specs.List.{AllByRecursion}
 use Rattle.quad_field.specs.declared.quad.Quad.{Quad}
 use Rattle.quad_field.specs.Quads.{quad_ops}
 use Rattle.plane.specs.Vectors.{Vector, vector, det}
 use Rattle.plane.specs.declared.vec2.Vec2.{Vec2}
-use Rattle.surface_text.specs.declared.file.Glue.{Glue}
 use Rattle.surface_text.specs.Limits.{IsThere}
-use Rattle.tri_core.specs.declared.half.Half.{Half}
-use Rattle.tri_core.specs.HalfEdges.{twin_at}
 use Rattle.gluing.specs.Polygons.{side_after}
-use Rattle.gluing.specs.Gluings.{Gluing}
-use Rattle.ear_cut.specs.Cuttings.{Origin, Side, Piece, ArePartners, AreCut, IsCut, IsLeastEar, at, chord_at, ear, left_over, sides_of, vectors_of}
+use Rattle.ear_cut.specs.Cuttings.{Origin, Side, Piece, AreCut, IsCut, IsLeastEar, at, chord_at, ear, left_over, sides_of, vectors_of}
 use Rattle.ear_cut.specs.Cuttable.{IsCuttable}
 use Rattle.ear_cut.specs.declared.side.Edge.{Edge}
 use Rattle.ear_cut.specs.declared.side.Source.{Source}
@@ -35,7 +31,7 @@ seen edges = map side_of edges
 abbrev pub chord_corner : ℕ → List (Vector Quad) → ℕ → Quad
 chord_corner d sides i = det (quad_ops d) (chord_at d sides i) (side_after d sides ((i + 1) % length sides))
 
--- the absolute values of a vector's four parts, added
+-- the size of a vector: the absolute values of its four parts, added
 abbrev pub size_of : Vector Quad → ℕ
 size_of v = unsigned_abs v.0.a + unsigned_abs v.0.b + unsigned_abs v.1.a + unsigned_abs v.1.b
 
@@ -48,20 +44,21 @@ total weight (x ∷ xs) = weight x + total weight xs
 abbrev pub total_size : List (Vector Quad) → ℕ
 total_size vectors = total size_of vectors
 
--- the parts of a vector are at most what 258 vectors of bounded parts can add up to
+-- the size of a vector is at most what those of 258 vectors of bounded parts can add up to
 abbrev pub IsSmall : Vector Quad → Type 0
 IsSmall v = size_of v ≤ 1032000000000
 
--- and so are those of all vectors together
+-- the sizes of all vectors together are at most what 258 vectors of bounded parts can add up to
 abbrev pub AreSmall : List (Vector Quad) → Type 0
 AreSmall vectors = total_size vectors ≤ 1032000000000
 
--- polygons of at least three sides that are small and can be cut
+-- a polygon of at least three sides that is small and can be cut
 pub record IsReady (d : ℕ) (sides : List Vec2) : Type 0 where
   pub long : 3 ≤ length sides
   pub small : AreSmall (map vector sides)
   pub cuttable : IsCuttable d (map vector sides)
 
+-- polygons of at least three sides each that are small and can be cut
 abbrev pub AreCuttable : ℕ → List (List Vec2) → Type 0
 AreCuttable d polygons = AllByRecursion (IsReady d) polygons
 
@@ -93,18 +90,3 @@ IsSourceThere polygons (Origin.back t) = ⊤
 -- where side h comes from
 abbrev pub source_at : List Side → ℕ → Origin
 source_at sides h = (at 2 sides h).origin
-
--- some side comes from there
-abbrev pub HasSource : List Side → Origin → Type 0
-HasSource sides origin = (h : ℕ) × (h < length sides) × (source_at sides h ≡ origin)
-
--- each side is there, and its partners come from sides as well
-abbrev pub HasPartners : Gluing → List Side → Type 0
-HasPartners g sides =
-    (h : ℕ) → h < length sides
-    → IsSourceThere g.polygons (source_at sides h) × ((other : Origin) → ArePartners g.glues (source_at sides h) other → HasSource sides other)
-
--- the twin of each half-edge comes from its partner
-abbrev pub AreTwinsOf : List Glue → List Side → List Half → Type 0
-AreTwinsOf glues sides halves =
-    (h : ℕ) → h < length sides → (twin_at halves h < length sides) × ArePartners glues (source_at sides h) (source_at sides (twin_at halves h))

@@ -1,6 +1,6 @@
 //! Cutting polygons into triangles.
 
-ghost use Rattle.std.specs.Prelude.{◌≡◌, ℕ, ◌+◌, ◌*◌, ◌/◌, ◌%◌, ◌<◌, ◌≤◌, length, map, vec_len, IfOk};
+ghost use Rattle.std.specs.Prelude.{◌≡◌, ℕ, ◌+◌, ◌*◌, ◌/◌, ◌%◌, ◌<◌, ◌≤◌, length, map, vec_len, IfOk, OnOk};
 ghost use Rattle.quad_field.specs.FieldNumber.{IsFieldNumber};
 ghost use Rattle.surface_text.specs.declared.file.Polygon.{Polygon as PolygonValue};
 ghost use Rattle.gluing.specs.Gluings.{triangle_count};
@@ -15,19 +15,19 @@ use quad_field::Field;
 use std::alloc::{AllocError, Global};
 use surface_text::Polygon;
 
-/// The sides of polygon p.
-fn sides_of(alloc: Global, p: u32, vectors: &[Vec2]) -> Result<Vec<Edge>, AllocError>
+/// Makes the list hold the sides of polygon p, and nothing else.
+fn put_sides(p: u32, vectors: &[Vec2], sides: &mut Vec<Edge>) -> Result<(), AllocError>
     requires { length vectors.now ≤ 258 }
-    ensures { IfOk result (λ sides. seen sides.items ≡ outer_sides p 0 vectors.now) }
+    ensures { OnOk result (seen sides.new.items ≡ outer_sides p 0 vectors.now) }
 {
-    let mut sides = Vec::with_capacity(alloc, vectors.len())?;
+    sides.clear();
     for (e, vec) in vectors.iter().enumerate() {
         sides.push(Edge {
             vec: *vec,
             source: Source::Outer { p, e: e as u32 },
         })?;
     }
-    Ok(sides)
+    Ok(())
 }
 
 /// Where the search for an ear goes on after corner i of n was cut off: at the corner before the chord, or at the start
@@ -75,20 +75,19 @@ fn cut_ear(
     Ok(next_first(i, n))
 }
 
-/// Cuts a polygon, and appends the sides of its triangles.
-fn cut_polygon(f: &Field, polygon: Vec<Edge>, edges: &mut Vec<Edge>) -> Result<(), AllocError>
+/// Cuts a polygon down to three sides, and appends the sides of its triangles.
+fn cut_polygon(f: &Field, sides: &mut Vec<Edge>, edges: &mut Vec<Edge>) -> Result<(), AllocError>
     requires field { IsFieldNumber f.now }
-    requires long { 3 ≤ vec_len polygon }
-    requires small { AreSmall (vectors_of (seen polygon.items)) }
-    requires cuttable { IsCuttable f.now (vectors_of (seen polygon.items)) }
+    requires long { 3 ≤ vec_len sides.old }
+    requires small { AreSmall (vectors_of (seen sides.old.items)) }
+    requires cuttable { IsCuttable f.now (vectors_of (seen sides.old.items)) }
     requires whole { vec_len edges.old % 3 ≡ 0 }
-    requires few { vec_len edges.old + 3 * vec_len polygon ≤ 774 }
-    ensures { IfOk result (λ _. IsPolygonCut f.now (vec_len edges.old / 3) (seen polygon.items) (seen edges.old.items) (seen edges.new.items)) }
+    requires few { vec_len edges.old + 3 * vec_len sides.old ≤ 774 }
+    ensures { OnOk result (IsPolygonCut f.now (vec_len edges.old / 3) (seen sides.old.items) (seen edges.old.items) (seen edges.new.items)) }
 {
-    let mut sides = polygon;
     let mut first = 0;
     while sides.len() > 3 {
-        first = cut_ear(f, first, &mut sides, edges)?;
+        first = cut_ear(f, first, sides, edges)?;
     }
     edges.push(sides[0])?;
     edges.push(sides[1])?;
@@ -107,10 +106,15 @@ pub(crate) fn cut_polygons(
     requires few { triangle_count (map (λ (polygon : PolygonValue). polygon.sides.items) polygons.now) ≤ 256 }
     ensures { IfOk result (λ edges. ArePolygonsCut f.now (map (λ (polygon : PolygonValue). polygon.sides.items) polygons.now) (seen edges.items)) }
 {
-    let mut edges = Vec::new(alloc);
+    // Room for all sides: a polygon is cut into two triangles fewer than it has sides.
+    let triangles = polygons.iter().fold(0usize, |count, polygon| {
+        count.saturating_add(polygon.sides.len().saturating_sub(2))
+    });
+    let mut edges = Vec::with_capacity(alloc, triangles.saturating_mul(3))?;
+    let mut sides = Vec::new(alloc);
     for (p, polygon) in polygons.iter().enumerate() {
-        let sides = sides_of(alloc, p as u32, &polygon.sides)?;
-        cut_polygon(f, sides, &mut edges)?;
+        put_sides(p as u32, &polygon.sides, &mut sides)?;
+        cut_polygon(f, &mut sides, &mut edges)?;
     }
     Ok(edges)
 }

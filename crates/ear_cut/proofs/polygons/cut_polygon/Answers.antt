@@ -10,21 +10,21 @@ loop-sides-init c = record {
   cuttable = c.requires.cuttable;
   passed = λ k below ear. omega arith;
   few = c.requires.few;
-  so_far = cut_none c.args.f.now (vec_len c.args.edges.now / 3) (seen c.args.polygon.items) (seen c.args.edges.now.items);
+  so_far = cut_none c.args.f.now (vec_len c.args.edges.now / 3) (seen c.args.sides.now.items) (seen c.args.edges.now.items);
 }
 
 pub loop-sides-smaller : goal.loop-sides-smaller
 loop-sides-smaller c =
-    let further : IsFurther c.args.f.now (vec_len c.args.edges.now / 3) (seen c.args.polygon.items) c.args.edges.now.items c.loop-sides.sides.items c.loop-sides.edges.items c.cut_ear.new.edges.items c.cut_ear.new.sides.items =
-    cut_on c.args.f.now (vec_len c.args.edges.now) (vec_len c.loop-sides.edges) (seen c.args.polygon.items) c.args.edges.now.items c.loop-sides.sides.items c.loop-sides.edges.items c.cut_ear.new.edges.items c.cut_ear.new.sides.items
+    let further : IsFurther c.args.f.now (vec_len c.args.edges.now / 3) (seen c.args.sides.now.items) c.args.edges.now.items c.loop-sides.sides.items c.loop-sides.edges.items c.cut_ear.new.edges.items c.cut_ear.new.sides.items =
+    cut_on c.args.f.now (vec_len c.args.edges.now) (vec_len c.loop-sides.edges) (seen c.args.sides.now.items) c.args.edges.now.items c.loop-sides.sides.items c.loop-sides.edges.items c.cut_ear.new.edges.items c.cut_ear.new.sides.items
     c.requires.field (omega arith) c.loop-sides.invariant.cuttable c.loop-sides.invariant.small (omega arith) c.requires.whole (omega arith) c.loop-sides.invariant.so_far c.in_ok-first.ensures.cut in
     let less : vec_len c.cut_ear.new.sides < vec_len c.loop-sides.sides = omega (arith, further.shorter.left_long) in
     less
 
 pub loop-sides-preserved : goal.loop-sides-preserved
 loop-sides-preserved c =
-    let further : IsFurther c.args.f.now (vec_len c.args.edges.now / 3) (seen c.args.polygon.items) c.args.edges.now.items c.loop-sides.sides.items c.loop-sides.edges.items c.cut_ear.new.edges.items c.cut_ear.new.sides.items =
-    cut_on c.args.f.now (vec_len c.args.edges.now) (vec_len c.loop-sides.edges) (seen c.args.polygon.items) c.args.edges.now.items c.loop-sides.sides.items c.loop-sides.edges.items c.cut_ear.new.edges.items c.cut_ear.new.sides.items
+    let further : IsFurther c.args.f.now (vec_len c.args.edges.now / 3) (seen c.args.sides.now.items) c.args.edges.now.items c.loop-sides.sides.items c.loop-sides.edges.items c.cut_ear.new.edges.items c.cut_ear.new.sides.items =
+    cut_on c.args.f.now (vec_len c.args.edges.now) (vec_len c.loop-sides.edges) (seen c.args.sides.now.items) c.args.edges.now.items c.loop-sides.sides.items c.loop-sides.edges.items c.cut_ear.new.edges.items c.cut_ear.new.sides.items
     c.requires.field (omega arith) c.loop-sides.invariant.cuttable c.loop-sides.invariant.small (omega arith) c.requires.whole (omega arith) c.loop-sides.invariant.so_far c.in_ok-first.ensures.cut in
     record {
       long = omega (arith, further.shorter.left_long);
@@ -38,5 +38,5 @@ loop-sides-preserved c =
 pub returns : goal.returns
 returns c =
     let long : length c.loop-sides.sides.items ≡ 3 = omega arith in
-    cut_last c.args.f.now (vec_len c.args.edges.now / 3) (seen c.args.polygon.items) (seen c.args.edges.now.items) c.loop-sides.sides.items c.loop-sides.edges.items _ _ _ c.index.result.now c.index-2.result.now c.index-3.result.now long
+    cut_last c.args.f.now (vec_len c.args.edges.now / 3) (seen c.args.sides.now.items) (seen c.args.edges.now.items) c.loop-sides.sides.items c.loop-sides.edges.items _ _ _ c.index.result.now c.index-2.result.now c.index-3.result.now long
     c.index.ensures c.index-2.ensures c.index-3.ensures c.loop-sides.invariant.so_far c.in_ok-push.ensures.items c.in_ok-push-2.ensures.items c.in_ok-push-3.ensures.items

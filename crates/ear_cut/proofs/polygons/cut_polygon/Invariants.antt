@@ -12,7 +12,7 @@ invariant-loop-sides l = record {
   cuttable : IsCuttable l.f (vectors_of (seen l.sides.items));
   passed : (k : ℕ) → k < l.first → ¬ (IsEar l.f (vectors_of (seen l.sides.items)) k);
   few : vec_len l.edges + 3 * vec_len l.sides ≤ 774;
-  so_far : IsCutTo l.f (vec_len l.fn.edges / 3) (seen l.fn.polygon.items) (seen l.fn.edges.items) (seen l.edges.items) (seen l.sides.items);
+  so_far : IsCutTo l.f (vec_len l.fn.edges / 3) (seen l.fn.sides.items) (seen l.fn.edges.items) (seen l.edges.items) (seen l.sides.items);
 }
 
 abbrev pub decreases-loop-sides : goal.decreases-loop-sides
