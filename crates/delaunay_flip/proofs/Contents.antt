@@ -10,8 +10,7 @@ use Rattle.quad_field.specs.declared.quad.Quad.{Quad}
 use Rattle.quad_field.specs.FieldNumber.{IsFieldNumber}
 use Rattle.quad_field.specs.Quads.{quad, scaled}
 use Rattle.quad_field.specs.Content.{DividesParts, DividesAll}
-use Rattle.quad_field.proofs.CallerLemmas.{exact_quotient}
-use Rattle.quad_field.proofs.Contents.{primitive_left}
+use Rattle.quad_field.proofs.CallerLemmas.{exact_quotient, primitive_left}
 use Rattle.tri_core.specs.declared.half.Half.{Half}
 use Rattle.tri_core.specs.Triangulation.{IsTriangulation}
 use Rattle.hinge_form.specs.Triples.{Triple, zeros, IsReduced}

@@ -1,4 +1,4 @@
--- Flipping a triangulation towards the strictly Delaunay one at a half-plane point (Bowman: the least edge of negative value, again and again).
+-- Flipping at a point: the least edge of negative value, again and again.
 use Rattle.std.specs.Prelude.{◌≡◌, ℕ, zero, suc, pos, ◌<◌, Option, Some, None, List}
 use Rattle.rings.specs.Forms.{value_at}
 use Rattle.quad_field.specs.declared.quad.Quad.{Quad}

@@ -21,6 +21,8 @@ use Rattle.quad_field.proofs.Conjugates as conjugates
 pub use Rattle.quad_field.proofs.KIntegers.{quad_ring, quad_order}
 -- n = (n / g)·g where g divides n
 pub use Rattle.quad_field.proofs.Contents.{exact_quotient}
+-- what is left of a list when its greatest common divisor is taken out has no divisor
+pub use Rattle.quad_field.proofs.Contents.{primitive_left}
 
 -- K-integers are a set: two equations between the same two are equal
 pub quad_set : IsSet Quad
