@@ -2,3 +2,4 @@ mod Listed
 mod Inputs
 mod Settling
 mod Based
+mod Numbers

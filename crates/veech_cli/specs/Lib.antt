@@ -4,3 +4,4 @@ pub mod Owed
 pub mod Runs
 pub mod Refusals
 pub mod Surfaces
+pub mod Programs

@@ -4,12 +4,14 @@
 mod base;
 mod check;
 pub mod laws;
+mod program;
 mod refusal;
 mod run;
 mod surface;
 
 pub use answer_text::{Place, Status, status_number};
 pub use command_words::WordList;
+pub use program::run_program;
 pub use run::run_plain;
 
 #[cfg(test)]
