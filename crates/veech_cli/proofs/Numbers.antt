@@ -24,3 +24,9 @@ owed_by_number command (Some bytes) result number ends h = λ status text owes. 
   | inl e ↦ inl (ends ∙ ap number_of e)
   | inr e ↦ inr (ends ∙ ap number_of e)
 ]
+
+-- want of memory has its own
+pub memory_number : (command : Command) (left : Option (List ℕ)) (number : ℕ) → number ≡ number_of Memory
+    → IfSome left (λ input. (status : Status) (text : List ℕ) → Owes command input status text → (number ≡ number_of status) ⊎ (number ≡ number_of Memory))
+memory_number command None number ends = tt
+memory_number command (Some bytes) number ends = λ status text owes. inr ends

@@ -11,7 +11,7 @@ ghost use Rattle.veech_cli.specs.Owed.{Owes};
 ghost use Rattle.veech_cli.specs.Runs.{Settles, Delivers, IsInput};
 ghost use Rattle.veech_cli.specs.Programs.{words_given};
 
-use super::run::{deliver, run_plain};
+use super::run::run_plain;
 use super::{Status, WordList, status_number};
 use io_ends::{Sink, Source};
 use std::alloc::{AllocError, Global};
@@ -29,12 +29,14 @@ pub fn run_program<S: Source, K: Sink>(
     source: &mut S,
     sink: &mut K,
 ) -> ExitCode
-    // What these words and the input settle is what is answered and written, by the number of the status.
-    ensures outcome { (input : List ℕ) × (status : Answer) × (text : List ℕ) × (last : Answer)
+    // What these words and the input settle is what is answered and written, by the number of the status. Or the words couldn't be
+    // kept for want of memory: then nothing is read, and nothing written.
+    ensures outcome { ((input : List ℕ) × (status : Answer) × (text : List ℕ) × (last : Answer)
         × IsInput (S.left source.old) input
         × Settles (words_given args) input status text
         × Delivers status text last (K.taken sink.old) (K.taken sink.new)
-        × (exit_status result ≡ number_of last) }
+        × (exit_status result ≡ number_of last))
+        ⊎ ((exit_status result ≡ number_of Answer.Memory) × (source.new ≡ source.old) × (sink.new ≡ sink.old)) }
     // The other way round: where no end failed and the source tells its bytes, the number of what is owed, but for want of memory.
     ensures complete { (command : Command) → Names (words_given args) command
         → ¬ (Rose (S.faults source.old) (S.faults source.new))
@@ -53,7 +55,7 @@ pub fn run_program<S: Source, K: Sink>(
             exit_code(&status)
         }
         Err(AllocError) => {
-            let status = deliver(sink, Status::Memory, b"fault memory\n");
+            let status = Status::Memory;
             exit_code(&status)
         }
     }

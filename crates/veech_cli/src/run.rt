@@ -150,7 +150,7 @@ fn output(alloc: Global, command: Command, input: &[u8]) -> Result<Vec<u8>, Refu
 }
 
 /// Writes a text, and answers its status, or that the sink failed.
-pub(crate) fn deliver<K: Sink>(sink: &mut K, status: Status, text: &[u8]) -> Status
+fn deliver<K: Sink>(sink: &mut K, status: Status, text: &[u8]) -> Status
     ensures delivered { Delivers status text.now result (K.taken sink.old) (K.taken sink.new) }
     ensures fault { result ≡ Status.WriteFault → (status ≡ Status.WriteFault) ⊎ Rose (K.faults sink.old) (K.faults sink.new) }
     ensures never_falls { K.faults sink.old ≤ K.faults sink.new }

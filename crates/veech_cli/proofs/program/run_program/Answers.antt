@@ -1,14 +1,13 @@
 use Rattle.std.proofs.Common.{inl, inr, sym, subst, refl}
 use Rattle.command_words.specs.Commands.{Names}
 use Rattle.veech_cli.specs.Programs.{words_given}
-use Rattle.veech_cli.proofs.Settling.{memory_comes, memory_answers, any_complete}
-use Rattle.veech_cli.proofs.Numbers.{by_number, owed_by_number}
+use Rattle.veech_cli.proofs.Numbers.{by_number, owed_by_number, memory_number}
 use Rattle.veech_cli.proofs.program.run_program.Goals as goal
 
 pub returns-in-Ok-clause-outcome : goal.returns-in-Ok-clause-outcome
 returns-in-Ok-clause-outcome g c =
-    by_number c.in-Ok.words (words_given c.args.args) (g.S.Source.left c.args.source.now) (g.K.Sink.taken c.args.sink.now) (g.K.Sink.taken c.run_plain-status.new.sink) c.run_plain-status.result _
-    c.in-Ok.ensures c.exit_code.ensures c.run_plain-status.ensures.outcome
+    inl (by_number c.in-Ok.words (words_given c.args.args) (g.S.Source.left c.args.source.now) (g.K.Sink.taken c.args.sink.now) (g.K.Sink.taken c.run_plain-status.new.sink) c.run_plain-status.result _
+    c.in-Ok.ensures c.exit_code.ensures c.run_plain-status.ensures.outcome)
 
 pub returns-in-Ok-clause-complete : goal.returns-in-Ok-clause-complete
 returns-in-Ok-clause-complete g c = λ command names no_read no_write.
@@ -16,14 +15,8 @@ returns-in-Ok-clause-complete g c = λ command names no_read no_write.
     (c.run_plain-status.ensures.complete command (subst (λ w. Names w command) (sym c.in-Ok.ensures) names) no_read no_write)
 
 pub returns-in-Err-clause-outcome : goal.returns-in-Err-clause-outcome
-returns-in-Err-clause-outcome g c =
-    by_number (words_given c.args.args) (words_given c.args.args) (g.S.Source.left c.args.source.now) (g.K.Sink.taken c.args.sink.now) (g.K.Sink.taken c.deliver-status.new.sink) c.deliver-status.result _
-    refl c.exit_code-in-Err.ensures
-    (memory_comes (words_given c.args.args) (g.S.Source.left c.args.source.now) (g.K.Sink.taken c.args.sink.now) (g.K.Sink.taken c.deliver-status.new.sink) c.deliver-status.result c.deliver-status.ensures.delivered)
+returns-in-Err-clause-outcome g c = inr (c.exit_code-in-Err.ensures, refl, refl)
 
 pub returns-in-Err-clause-complete : goal.returns-in-Err-clause-complete
 returns-in-Err-clause-complete g c = λ command names no_read no_write.
-    owed_by_number command (g.S.Source.left c.args.source.now) c.deliver-status.result _ c.exit_code-in-Err.ensures
-    (any_complete (g.S.Source.left c.args.source.now) command c.deliver-status.result
-    (memory_answers c.deliver-status.result _ (g.K.Sink.taken c.args.sink.now) (g.K.Sink.taken c.deliver-status.new.sink) _ c.deliver-status.ensures.delivered
-    (λ e. elim (c.deliver-status.ensures.fault e) [ inl k ↦ absurd (cc) | inr r ↦ r ]) no_write))
+    memory_number command (g.S.Source.left c.args.source.now) _ c.exit_code-in-Err.ensures
