@@ -98,6 +98,14 @@ fn is_negative(f: &Field, x: Quad) -> bool
     f.sign(x) == Sign::Minus
 }
 
+/// A corner at a place.
+fn found_at(at: &Place3, ideal: bool) -> Spot
+    ensures place { of_place result.at ≡ of_place at.now }
+    ensures ideal { result.ideal ≡ ideal }
+{
+    Spot { at: *at, ideal }
+}
+
 /// The corner at a forward place, if it is one: the values first, and the inner test, whose numbers are the widest, last.
 fn spot_at(f: &Field, forms: &[Hinge], at: &Place3) -> Result<Option<Spot>, Wide>
     requires forward { IsForward (quad_ops f.now) (IsPositive f.now) (of_place at.now) }
@@ -111,14 +119,8 @@ fn spot_at(f: &Field, forms: &[Hinge], at: &Place3) -> Result<Option<Spot>, Wide
     match none_negative(f, forms, at) {
         Ok(true) => match inner_sign(f, at) {
             Ok(Sign::Minus) => Ok(None),
-            Ok(Sign::Zero) => Ok(Some(Spot {
-                at: *at,
-                ideal: true,
-            })),
-            Ok(Sign::Plus) => Ok(Some(Spot {
-                at: *at,
-                ideal: false,
-            })),
+            Ok(Sign::Zero) => Ok(Some(found_at(at, true))),
+            Ok(Sign::Plus) => Ok(Some(found_at(at, false))),
             Err(wide) => Err(wide),
         },
         Ok(false) => Ok(None),

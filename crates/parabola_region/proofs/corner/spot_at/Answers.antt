@@ -1,4 +1,4 @@
-use Rattle.std.proofs.Common.{refl, sym, subst}
+use Rattle.std.proofs.Common.{◌∙◌, sym, subst}
 use Rattle.std.proofs.lemmas.Bool.{false≢true}
 use Rattle.rings.specs.Forms.{inner_value}
 use Rattle.quad_field.specs.Quads.{quad_ops, IsPositive, IsSign}
@@ -18,10 +18,10 @@ returns-in-Ok-Zero-clause-spot c =
     let d = c.args.f.now in
     let q = of_place c.args.at.now in
     let z = subst (IsSign d (inner_value (quad_ops d) q)) c.in-Ok-Zero.field-0-is c.in-Ok-Zero.ensures.sign in (
-      refl,
+      c.found_at.ensures.place,
       closed_zero d c.is_field.ensures q c.requires.forward (λ n. false≢true (c.if-is_negative.ensures.1 n)) z,
       c.in-Ok-true.ensures.none.0 c.in-Ok-true.field-0-test,
-      (λ t. z, λ _. refl),
+      (λ t. z, λ _. c.found_at.ensures.ideal),
     )
 
 pub returns-in-Ok-Plus-clause-spot : goal.returns-in-Ok-Plus-clause-spot
@@ -30,10 +30,10 @@ returns-in-Ok-Plus-clause-spot c =
     let q = of_place c.args.at.now in
     let p = subst (IsSign d (inner_value (quad_ops d) q)) c.in-Ok-Plus.field-0-is c.in-Ok-Plus.ensures.sign in
     let third : ¬ (IsPositive d ((quad_ops d).neg q.2)) = λ n. false≢true (c.if-is_negative.ensures.1 n) in (
-      refl,
+      c.found_at-in-Ok-Plus.ensures.place,
       closed_plus d c.is_field.ensures q c.requires.forward third p,
       c.in-Ok-true.ensures.none.0 c.in-Ok-true.field-0-test,
-      (λ t. absurd (false≢true t), λ z. absurd (plus_not_zero d c.is_field.ensures q c.requires.forward third p z)),
+      (λ t. absurd (false≢true (sym c.found_at-in-Ok-Plus.ensures.ideal ∙ t)), λ z. absurd (plus_not_zero d c.is_field.ensures q c.requires.forward third p z)),
     )
 
 pub returns-in-Err-inner_sign-clause-wide : goal.returns-in-Err-inner_sign-clause-wide
