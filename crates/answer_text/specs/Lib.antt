@@ -2,3 +2,4 @@ pub mod Statuses
 pub mod Lines
 pub mod CheckTexts
 pub mod BaseTexts
+pub mod RegionTexts

@@ -6,7 +6,7 @@ use Rattle.quad_field.specs.declared.formula.Formula.TheVariants.{F1, F2, F3, F4
 use Rattle.plane.specs.Spelling.{natural_text}
 use Rattle.surface_text.specs.Spelling.{point_text}
 use Rattle.answer_text.specs.declared.place.Place.{Place}
-use Rattle.answer_text.specs.declared.place.Place.TheVariants.{Flips}
+use Rattle.answer_text.specs.declared.place.Place.TheVariants.{Flips, Base}
 use Rattle.answer_text.specs.declared.status.Status.{Status}
 use Rattle.answer_text.specs.declared.status.Status.TheVariants.{Done, Words, File, NotStrict, FlipsEnded, TooWide, ReadFault, WriteFault, Memory}
 
@@ -41,6 +41,7 @@ formula_name F13 = codes "F13"
 -- the place where a formula is wide
 abbrev pub place_text : Place → List ℕ
 place_text (Flips flips edge) = concat (codes "flips " ∷ natural_text flips ∷ codes " edge " ∷ natural_text edge ∷ [])
+place_text Base = codes "base"
 
 -- the one line that a status writes in place of output; `Done` and `WriteFault` have none
 abbrev pub status_line : Status → List ℕ

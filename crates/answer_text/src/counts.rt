@@ -42,7 +42,11 @@ fn put_count(alloc: Global, out: &mut Vec<u8>, label: &[u8], count: u64) -> Resu
 }
 
 /// Appends numbers, each with a space before it.
-fn put_numbers(alloc: Global, out: &mut Vec<u8>, numbers: &[u32]) -> Result<(), AllocError>
+pub(crate) fn put_numbers(
+    alloc: Global,
+    out: &mut Vec<u8>,
+    numbers: &[u32],
+) -> Result<(), AllocError>
     ensures { OnOk result (out.new.items ≡ out.old.items ++ numbers_text numbers.now) }
 {
     for number in numbers {

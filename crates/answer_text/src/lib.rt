@@ -8,12 +8,14 @@ mod fault;
 mod formula;
 mod half_edges;
 mod place;
+mod region_lines;
 mod status;
 
 pub use counts::check_text;
 pub use fault::fault_line;
 pub use half_edges::base_text;
 pub use place::Place;
+pub use region_lines::region_text;
 pub use status::{Status, status_number};
 
 #[cfg(test)]

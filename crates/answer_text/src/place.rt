@@ -11,6 +11,8 @@ use std::alloc::{AllocError, Global};
 pub enum Place {
     /// After this many flips at the point that decides, at this edge.
     Flips { flips: u32, edge: u32 },
+    /// At the base.
+    Base,
 }
 
 /// Appends a place.
@@ -24,5 +26,6 @@ pub(crate) fn put_place(alloc: Global, out: &mut Vec<u8>, place: &Place) -> Resu
             out.extend_from_slice(b" edge ")?;
             put_natural(alloc, out, u64::from(*edge))
         }
+        Place::Base => Ok(out.extend_from_slice(b"base")?),
     }
 }

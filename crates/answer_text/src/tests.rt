@@ -18,13 +18,18 @@ fn each_status_has_its_number_and_its_line(rt: HostRuntime) -> Result<(), Fail> 
         place: Place::Flips { flips: 7, edge: 30 },
     };
     let file = Status::File { cause: 16, line: 3 };
-    let rows: [(Status, u8, &[u8]); 9] = [
+    let wide_base = Status::TooWide {
+        formula: Formula::F6,
+        place: Place::Base,
+    };
+    let rows: [(Status, u8, &[u8]); 10] = [
         (Status::Done, 0, b""),
         (Status::Words, 2, b"fault words\n"),
         (file, 3, b"fault file 16 3 Flat\n"),
         (Status::NotStrict { edge: 2 }, 4, b"fault strict 2\n"),
         (Status::FlipsEnded { point }, 5, b"fault flips -2/13 5/4\n"),
         (wide, 6, b"fault wide F12 flips 7 edge 30\n"),
+        (wide_base, 6, b"fault wide F6 base\n"),
         (Status::ReadFault, 8, b"fault read\n"),
         (Status::WriteFault, 9, b""),
         (Status::Memory, 10, b"fault memory\n"),

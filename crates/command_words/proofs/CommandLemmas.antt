@@ -1,15 +1,15 @@
 -- Words name one command.
 use Rattle.std.proofs.Common.{◌≡◌, ◌∙◌, ℕ, List, [], ◌∷◌, ◌++◌, map, codes, Option, Some, None, IsSome, true≢false, MatchOption, refl, ap, ap₂, sym, subst, arith}
-use Rattle.std.specs.Prelude.{IsSomeAnd}
+use Rattle.std.specs.Prelude.{IsSomeAnd, get_or}
 use Rattle.std.specs.List.{AllByRecursion, flat_map}
 use Rattle.std.proofs.lemmas.List.{append_assoc}
 use Rattle.plane.specs.Spelling.{natural_text}
 use Rattle.plane.proofs.CallerLemmas.{natural_text_injective}
 use Rattle.command_words.specs.declared.rows.NumberBounds.{NumberBounds}
 use Rattle.command_words.specs.declared.command.Command.{Command}
-use Rattle.command_words.specs.declared.command.Command.TheVariants.{Check, Base}
+use Rattle.command_words.specs.declared.command.Command.TheVariants.{Check, Base, Region}
 use Rattle.command_words.specs.Lines.{OptionRow, CommandRow, Given, given_words, IsGivenOf, IsLine, IsTaken, number_given}
-use Rattle.command_words.specs.Grammar.{base_row, flips_option}
+use Rattle.command_words.specs.Grammar.{check_row, base_row, region_row, flips_option}
 use Rattle.command_words.specs.Commands.{IsNumberOf, row_of_command, AreRead, Names, AreTaken}
 use Rattle.command_words.specs.Fronts.{IsRow}
 use Rattle.command_words.proofs.GivenLemmas.{one_given}
@@ -27,6 +27,9 @@ some_number one options some = at (number_given one.name options) one.numbers so
 -- so a line of a command's row names a command
 pub base_taken : (words : List (List ℕ)) → IsTaken base_row words → AreTaken words
 base_taken words (options, plain, line) = let (flips, is) = some_number flips_option options refl in (Base flips, (options, plain, line, is))
+
+pub region_taken : (words : List (List ℕ)) → IsTaken region_row words → AreTaken words
+region_taken words (options, plain, line) = let (flips, is) = some_number flips_option options refl in (Region flips, (options, plain, line, is))
 
 -- ---- a line has one spelling
 same_values : (plain other : List ℕ) → map natural_text plain ≡ map natural_text other → plain ≡ other
@@ -66,16 +69,41 @@ same_number one options m n h k = at (number_given one.name options) one.numbers
     at None None h k = absurd h
 
 -- ---- words name one command
+flips_letters : AllByRecursion (λ byte. ¬ (byte ≡ 61)) (codes "flips")
+flips_letters = ((λ e. omega arith), ((λ e. omega arith), ((λ e. omega arith), ((λ e. omega arith), ((λ e. omega arith), tt)))))
+
 base_is : IsRow base_row
-base_is = ((((λ e. cc), letters, (λ e. cc)), tt), (tt, tt))
-  where
-    letters : AllByRecursion (λ byte. ¬ (byte ≡ 61)) (codes "flips")
-    letters = ((λ e. omega arith), ((λ e. omega arith), ((λ e. omega arith), ((λ e. omega arith), ((λ e. omega arith), tt)))))
+base_is = ((((λ e. cc), flips_letters, (λ e. cc)), tt), (tt, tt))
+
+region_is : IsRow region_row
+region_is = ((((λ e. cc), flips_letters, (λ e. cc)), tt), (tt, tt))
+
+-- lines of rows with different words differ
+other_word : (row other : CommandRow) (words : List (List ℕ)) → ¬ (row.word ≡ other.word) → (options others : List Given) (plain values : List ℕ) → IsLine row options plain words → ¬ (IsLine other others values words)
+other_word row other words apart options others plain values line also =
+    let e : row.word ∷ (flat_map given_words options ++ map natural_text plain) ≡ other.word ∷ (flat_map given_words others ++ map natural_text values) = sym line.spelled ∙ also.spelled in
+    apart (ap (λ (list : List (List ℕ)). get_or list 0 []) e)
+
+check_base : ¬ (codes "check" ≡ codes "base")
+check_base e = cc
+
+check_region : ¬ (codes "check" ≡ codes "region")
+check_region e = cc
+
+base_region : ¬ (codes "base" ≡ codes "region")
+base_region e = cc
 
 pub one_command : (words : List (List ℕ)) (one other : Command) → Names words one → Names words other → one ≡ other
 one_command words Check Check h k = refl
-one_command words Check (Base n) (_, _, line, _) (_, _, also, _) = absurd (let e = sym line.spelled ∙ also.spelled in cc)
-one_command words (Base m) Check (_, _, line, _) (_, _, also, _) = absurd (let e = sym line.spelled ∙ also.spelled in cc)
+one_command words Check (Base n) h k = absurd (other_word check_row base_row words check_base h.0 k.0 h.1 k.1 h.2 k.2)
+one_command words Check (Region n) h k = absurd (other_word check_row region_row words check_region h.0 k.0 h.1 k.1 h.2 k.2)
+one_command words (Base m) Check h k = absurd (other_word check_row base_row words check_base k.0 h.0 k.1 h.1 k.2 h.2)
+one_command words (Base m) (Region n) h k = absurd (other_word base_row region_row words base_region h.0 k.0 h.1 k.1 h.2 k.2)
+one_command words (Region m) Check h k = absurd (other_word check_row region_row words check_region k.0 h.0 k.1 h.1 k.2 h.2)
+one_command words (Region m) (Base n) h k = absurd (other_word base_row region_row words base_region k.0 h.0 k.1 h.1 k.2 h.2)
 one_command words (Base m) (Base n) (options, plain, line, is) (others, values, also, so) =
     let same = one_line base_row base_is words options others plain values line also in
     ap Base (same_number flips_option options m n is (subst (λ os. IsNumberOf flips_option os n) (sym same.0) so))
+one_command words (Region m) (Region n) (options, plain, line, is) (others, values, also, so) =
+    let same = one_line region_row region_is words options others plain values line also in
+    ap Region (same_number flips_option options m n is (subst (λ os. IsNumberOf flips_option os n) (sym same.0) so))

@@ -19,3 +19,7 @@ check_row = record { word = codes "check"; options = []; plain = no_plain }
 -- `base [--flips N]`
 abbrev pub base_row : CommandRow
 base_row = record { word = codes "base"; options = flips_option ∷ []; plain = no_plain }
+
+-- `region [--flips N]`
+abbrev pub region_row : CommandRow
+region_row = record { word = codes "region"; options = flips_option ∷ []; plain = no_plain }

@@ -2,11 +2,11 @@
 
 ghost use Rattle.std.specs.Prelude.{◌≡◌, map, string_bytes, MatchOption, IfOk};
 ghost use Rattle.command_words.specs.Lines.{IsTaken};
-ghost use Rattle.command_words.specs.Grammar.{check_row, base_row};
+ghost use Rattle.command_words.specs.Grammar.{check_row, base_row, region_row};
 ghost use Rattle.command_words.specs.Commands.{Names, AreTaken};
 
 use super::WordList;
-use super::grammar::{BASE, CHECK, FLIPS};
+use super::grammar::{BASE, CHECK, FLIPS, REGION};
 use super::lines::is_line;
 use super::parsing::parse;
 use super::values::number_of;
@@ -19,6 +19,8 @@ pub enum Command {
     Check,
     /// The base of the file's triangulation, reached by at most so many flips.
     Base { flips: u32 },
+    /// The walls and corners of the region of that base.
+    Region { flips: u32 },
 }
 
 /// The command that the words name: none exactly where they aren't in the grammar.
@@ -34,6 +36,9 @@ pub fn read_command(alloc: Global, words: &WordList) -> Result<Option<Command>, 
     }
     if is_line(&BASE, words) {
         return Ok(Some(base(alloc, words)?));
+    }
+    if is_line(&REGION, words) {
+        return Ok(Some(region(alloc, words)?));
     }
     Ok(None)
 }
@@ -55,4 +60,14 @@ fn base(alloc: Global, words: &[String]) -> Result<Command, AllocError>
     let matches = parse(alloc, &BASE, words)?;
     let flips = number_of(&matches, &FLIPS);
     Ok(Command::Base { flips })
+}
+
+/// The command of a line of `region`.
+fn region(alloc: Global, words: &[String]) -> Result<Command, AllocError>
+    requires { IsTaken region_row (map string_bytes words.now) }
+    ensures { IfOk result (Names (map string_bytes words.now)) }
+{
+    let matches = parse(alloc, &REGION, words)?;
+    let flips = number_of(&matches, &FLIPS);
+    Ok(Command::Region { flips })
 }

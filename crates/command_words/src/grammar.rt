@@ -32,3 +32,10 @@ pub(crate) const BASE: CommandRow = CommandRow {
     options: &[FLIPS],
     plain: NO_PLAIN,
 };
+
+/// `region [--flips N]`.
+pub(crate) const REGION: CommandRow = CommandRow {
+    word: "region",
+    options: &[FLIPS],
+    plain: NO_PLAIN,
+};

@@ -11,13 +11,15 @@ use Rattle.delaunay_flip.specs.Bases.{Ending, EndsListed}
 use Rattle.delaunay_flip.specs.Answers.{IsRight}
 use Rattle.quad_field.specs.declared.formula.Formula.{Formula}
 use Rattle.answer_text.specs.declared.status.Status.TheVariants.{Done, NotStrict, FlipsEnded, TooWide}
-use Rattle.answer_text.specs.declared.place.Place.TheVariants.{Flips}
+use Rattle.answer_text.specs.declared.place.Place.TheVariants.{Flips, Base as AtBase}
+use Rattle.answer_text.specs.declared.status.Status.{Status}
+use Rattle.answer_text.specs.Lines.{status_line}
 use Rattle.answer_text.specs.BaseTexts.{half_edges_text}
 use Rattle.command_words.specs.declared.command.Command.TheVariants as commands
 use Rattle.veech_cli.specs.Endings.{or_standard, points_of, status_of_ending, text_of_ending}
-use Rattle.veech_cli.specs.Owed.{Owes}
+use Rattle.veech_cli.specs.Owed.{Owes, IsRegionAnswer, AnswersRegion}
 use Rattle.veech_cli.specs.Refusals.{status_of_base}
-use Rattle.veech_cli.specs.Surfaces.{IsTriangulatedFrom, IsRefusal, IsRefusalOf}
+use Rattle.veech_cli.specs.Surfaces.{IsTriangulatedFrom, IsRefusal, IsRefusalOf, RefusesRegion}
 use Rattle.veech_cli.proofs.Listed.{listed_point}
 use Rattle.veech_cli.proofs.Inputs.{points_within}
 use Rattle.veech_cli.proofs.Settling.{refuses_memory}
@@ -30,6 +32,9 @@ ended_refusal at inside = record { not_done = λ e. cc; not_words = λ e. cc; no
 
 wide_refusal : (formula : Formula) (n h : ℕ) → IsRefusal (TooWide formula (Flips n h))
 wide_refusal formula n h = record { not_done = λ e. cc; not_words = λ e. cc; not_write_fault = λ e. cc; point = tt }
+
+wide_base_refusal : (formula : Formula) → IsRefusal (TooWide formula AtBase)
+wide_base_refusal formula = record { not_done = λ e. cc; not_words = λ e. cc; not_write_fault = λ e. cc; point = tt }
 
 module _ (input : List ℕ) (flips : ℕ) (bases : List Point) (tri : Triangulation) (made : IsTriangulatedFrom input bases tri) where
   -- how the flipping of the triangulation ends
@@ -82,3 +87,47 @@ module _ (input : List ℕ) (flips : ℕ) (bases : List Point) (tri : Triangulat
   base_refused fault (inl (at, Ending.wide formula n h, ends, says)) =
       subst (λ f. IsRefusalOf (commands.Base flips) input (status_of_base f)) (sym says) (wide_refusal formula n h, inl (owed at (Ending.wide formula n h) ends))
   base_refused fault (inr memory) = refuses_memory (commands.Base flips) input (status_of_base fault) (ap status_of_base memory)
+
+  -- the base is over the field of the triangulation
+  pub base_field : (base : Base) → IsRight tri Ends (Ok base) → base.tri.field ≡ tri.field
+  base_field base (inl (at, Ending.strict later n, ends, says)) = says.0
+  base_field base (inl (at, Ending.not_strict h, ends, says)) = absurd says
+  base_field base (inl (at, Ending.flips_ended, ends, says)) = absurd says
+  base_field base (inl (at, Ending.wide formula n h, ends, says)) = absurd says
+  base_field base (inr memory) = absurd memory
+
+  -- what is answered for the region of the base is owed to the input
+  pub region_owed : (base : Base) → IsRight tri Ends (Ok base) → (status : Status) (text : List ℕ) → IsRegionAnswer base.tri.field base.tri.halves status text → Owes (commands.Region flips) input status text
+  region_owed base right status text answer =
+      inr (
+        made.0,
+        tri.halves,
+        made.1,
+        made.4,
+        (
+          base.point,
+          Ending.strict base.tri.halves base.flips,
+          ends_for base.point (Ending.strict base.tri.halves base.flips) (ended base right),
+          subst (λ d. IsRegionAnswer d base.tri.halves status text) (base_field base right ∙ made.3) answer,
+        ),
+      )
+
+  pub region_refused : (base : Base) → IsRight tri Ends (Ok base) → (status : Status) → RefusesRegion base.tri.field base.tri.halves status → IsRefusalOf (commands.Region flips) input status
+  region_refused base right status (inl (formula, wide, is)) =
+      (subst IsRefusal (sym is) (wide_base_refusal formula), inl (region_owed base right status (status_line status) (inr (formula, wide, is, ap status_line is))))
+  region_refused base right status (inr is) = refuses_memory (commands.Region flips) input status is
+
+  -- an ending that isn't strict
+  other : (at : Point) (ending : Ending) → Ends at ending → {status : Status} {text : List ℕ} → AnswersRegion made.0.field at ending status text → Owes (commands.Region flips) input status text
+  other at ending ends answer = inr (made.0, tri.halves, made.1, made.4, (at, ending, ends_for at ending ends, answer))
+
+  -- and so is a fault of the base
+  pub region_base_refused : (fault : BaseFault) → IsRight tri Ends (Err fault) → IsRefusalOf (commands.Region flips) input (status_of_base fault)
+  region_base_refused fault (inl (at, Ending.strict later n, ends, says)) = absurd says
+  region_base_refused fault (inl (at, Ending.not_strict h, ends, says)) =
+      subst (λ f. IsRefusalOf (commands.Region flips) input (status_of_base f)) (sym says) (not_strict_refusal h, inl (other at (Ending.not_strict h) ends (refl, refl)))
+  region_base_refused fault (inl (at, Ending.flips_ended, ends, says)) =
+      subst (λ f. IsRefusalOf (commands.Region flips) input (status_of_base f)) (sym says) (ended_refusal at (point_inside at Ending.flips_ended ends), inl (other at Ending.flips_ended ends (refl, refl)))
+  region_base_refused fault (inl (at, Ending.wide formula n h, ends, says)) =
+      subst (λ f. IsRefusalOf (commands.Region flips) input (status_of_base f)) (sym says) (wide_refusal formula n h, inl (other at (Ending.wide formula n h) ends (refl, refl)))
+  region_base_refused fault (inr memory) = refuses_memory (commands.Region flips) input (status_of_base fault) (ap status_of_base memory)

@@ -14,14 +14,15 @@ use Rattle.gluing.proofs.CallerLemmas as gluing
 use Rattle.ear_cut.specs.Cuttings.{IsEarCutting}
 use Rattle.ear_cut.proofs.CallerLemmas.{one_cutting, triangulation}
 use Rattle.delaunay_flip.specs.Points.{standard_points}
+use Rattle.delaunay_flip.specs.Bases.{Ending}
 use Rattle.delaunay_flip.proofs.CallerLemmas.{within}
 use Rattle.answer_text.specs.declared.status.Status.{Status}
 use Rattle.answer_text.specs.declared.status.Status.TheVariants.{Done, File}
 use Rattle.command_words.specs.declared.command.Command.{Command}
-use Rattle.command_words.specs.declared.command.Command.TheVariants.{Check, Base}
+use Rattle.command_words.specs.declared.command.Command.TheVariants.{Check, Base, Region}
 use Rattle.veech_cli.specs.SurfaceFiles.{IsTextOf, IsAccepted, IsTriangulationOf, IsRefused, too_long, text_refused, not_glued}
 use Rattle.veech_cli.specs.Endings.{or_standard, points_of, status_of_ending}
-use Rattle.veech_cli.specs.Owed.{Answers, Owes}
+use Rattle.veech_cli.specs.Owed.{Answers, AnswersRegion, Owes, IsOptional}
 use Rattle.veech_cli.proofs.Listed.{one_listed}
 
 -- two files with one text
@@ -73,18 +74,34 @@ pub points_within : (bases : List Point) → AllByRecursion IsBasePoint bases �
 points_within [] all = standard_within
 points_within (at ∷ bases) all = all
 
+-- for one ending `region` answers one status, but for a wide formula at the base
+region_once : (d : ℕ) (at : Point) (ending : Ending) (status other : Status) (text line : List ℕ) → AnswersRegion d at ending status text → AnswersRegion d at ending other line
+    → (status ≡ other) ⊎ (IsOptional status ⊎ IsOptional other)
+region_once d at (Ending.strict later n) status other text line (inl a) (inl b) = inl (a.4 ∙ sym b.4)
+region_once d at (Ending.strict later n) status other text line (inr a) b = inr (inl (a.0, a.2))
+region_once d at (Ending.strict later n) status other text line (inl a) (inr b) = inr (inr (b.0, b.2))
+region_once d at (Ending.not_strict h) status other text line a b = inl (a.0 ∙ sym b.0)
+region_once d at Ending.flips_ended status other text line a b = inl (a.0 ∙ sym b.0)
+region_once d at (Ending.wide formula n h) status other text line a b = inl (a.0 ∙ sym b.0)
+
 -- for one triangulation a command answers one status
 one_for : (command : Command) (input : List ℕ) (file : Content) (halves : List Half) → IsAccepted input file → IsTriangulationOf file halves
-    → (status other : Status) (text line : List ℕ) → Answers command file halves status text → Answers command file halves other line → status ≡ other
-one_for Check input file halves accepted t status other text line a b = a.4 ∙ sym b.4
+    → (status other : Status) (text line : List ℕ) → Answers command file halves status text → Answers command file halves other line → (status ≡ other) ⊎ (IsOptional status ⊎ IsOptional other)
+one_for Check input file halves accepted t status other text line a b = inl (a.4 ∙ sym b.4)
 one_for (Base flips) input file halves accepted t status other text line a b =
     let valid = triangulation (gluing_of file) accepted.glued halves t in
     let same = one_listed file.field accepted.text_of.limits.field halves valid flips (points_of file) (points_within file.bases accepted.text_of.limits.bases) a.0 b.0 a.1 b.1 a.2 b.2 in
-    a.3 ∙ (λ i. status_of_ending (same.0 i) (same.1 i)) ∙ sym b.3
+    inl (a.3 ∙ (λ i. status_of_ending (same.0 i) (same.1 i)) ∙ sym b.3)
+one_for (Region flips) input file halves accepted t status other text line a b =
+    let valid = triangulation (gluing_of file) accepted.glued halves t in
+    let same = one_listed file.field accepted.text_of.limits.field halves valid flips (points_of file) (points_within file.bases accepted.text_of.limits.bases) a.0 b.0 a.1 b.1 a.2 b.2 in
+    region_once file.field b.0 b.1 status other text line
+    (subst (λ (e : Ending). AnswersRegion file.field b.0 e status text) same.1 (subst (λ (p : Point). AnswersRegion file.field p a.1 status text) same.0 a.3)) b.3
 
-pub one_answer : (command : Command) (input : List ℕ) (status other : Status) (text line : List ℕ) → Owes command input status text → Owes command input other line → status ≡ other
+pub one_answer : (command : Command) (input : List ℕ) (status other : Status) (text line : List ℕ) → Owes command input status text → Owes command input other line
+    → (status ≡ other) ⊎ (IsOptional status ⊎ IsOptional other)
 one_answer command input status other text line (inl a) (inl b) =
-    let same = one_refusal input a.0 b.0 a.1 b.1 a.2 b.2 in a.3 ∙ (λ i. File (same.0 i) (same.1 i)) ∙ sym b.3
+    let same = one_refusal input a.0 b.0 a.1 b.1 a.2 b.2 in inl (a.3 ∙ (λ i. File (same.0 i) (same.1 i)) ∙ sym b.3)
 one_answer command input status other text line (inl a) (inr b) = absurd (not_both input b.0 a.0 a.1 b.2 a.2)
 one_answer command input status other text line (inr a) (inl b) = absurd (not_both input a.0 b.0 b.1 a.2 b.2)
 one_answer command input status other text line (inr a) (inr b) =

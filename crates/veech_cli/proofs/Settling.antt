@@ -17,9 +17,10 @@ use Rattle.command_words.specs.declared.command.Command.{Command}
 use Rattle.command_words.specs.declared.command.Command.TheVariants.{Check, Base}
 use Rattle.command_words.specs.Commands.{Names, AreTaken}
 use Rattle.veech_cli.specs.SurfaceFiles.{IsTextOf, IsAccepted, IsRefused, too_long, not_glued}
-use Rattle.veech_cli.specs.Owed.{Owes}
+use Rattle.veech_cli.specs.Owed.{Owes, IsOptional}
 use Rattle.veech_cli.specs.Refusals.{status_of_reading, status_of_gluing}
 use Rattle.veech_cli.specs.Runs.{IsFailure, SettlesOn, Settles, IsInput, SomeInput, Delivers, IsReadWhole, SaysNothing}
+use Rattle.veech_cli.specs.declared.refusal.Refusal.{Refusal}
 use Rattle.veech_cli.specs.Surfaces.{RefusesFile, IsRefusal, IsRefusalOf}
 use Rattle.command_words.proofs.CallerLemmas.{one_command}
 use Rattle.veech_cli.proofs.Inputs.{one_answer, not_both}
@@ -54,6 +55,12 @@ pub settles : (command : Command) (left : Option (List ℕ)) (input : List ℕ) 
     → SomeInput left (λ input. SettlesOn command input status (status_line status))
 settles command left input status is (_, inl owed) = (input, is, inl owed)
 settles command left input status is (_, inr e) = (input, is, inr (inr e, refl))
+
+-- and where a call answers so, it settles on that
+pub output_settles : {X : Type 0} (command : Command) (left : Option (List ℕ)) (input : List ℕ) (r : Result X Refusal) → IsInput left input → IfErr r (λ refusal. IsRefusalOf command input refusal.status)
+    → IfErr r (λ refusal. SomeInput left (λ input. SettlesOn command input refusal.status (status_line refusal.status)))
+output_settles command left input (Ok x) is h = tt
+output_settles command left input (Err refusal) is h = settles command left input refusal.status is h
 
 -- some input is what the source had left
 any_input : (left : Option (List ℕ)) (P : List ℕ → Type 0) → ((input : List ℕ) → P input) → SomeInput left P
@@ -188,12 +195,20 @@ module _ (result : Status) (taken after : Option (List ℕ)) (read_rose write_ro
 
   -- so what the command owes is
   pub complete : (command : Command) (left : Option (List ℕ)) → ComesOut command left result taken after
-      → IfSome left (λ input. (status : Status) (text : List ℕ) → Owes command input status text → (result ≡ status) ⊎ (result ≡ Memory))
+      → IfSome left (λ input. (status : Status) (text : List ℕ) → Owes command input status text
+      → (result ≡ status) ⊎ ((result ≡ Memory) ⊎ (IsOptional status ⊎ (IsOptional result × ((line : List ℕ) × Owes command input result line)))))
   complete command None comes = tt
   complete command (Some bytes) (input, owed, text, is, on, d) = λ status line owes. elim (settled command input owed text on d) [
-    | inl has ↦ inl (answered owed text d ∙ one_answer command bytes owed status text line (subst (λ b. Owes command b owed text) is has) owes)
-    | inr memory ↦ inr memory
+    | inl has ↦ one status line (subst (λ b. Owes command b owed text) is has) (one_answer command bytes owed status text line (subst (λ b. Owes command b owed text) is has) owes)
+    | inr memory ↦ inr (inl memory)
   ]
+    where
+      one : (status : Status) (line : List ℕ) → Owes command bytes owed text → (owed ≡ status) ⊎ (IsOptional owed ⊎ IsOptional status)
+          → (result ≡ status) ⊎ ((result ≡ Memory) ⊎ (IsOptional status ⊎ (IsOptional result × ((line : List ℕ) × Owes command bytes result line))))
+      one status line has (inl e) = inl (answered owed text d ∙ e)
+      one status line has (inr (inl optional)) =
+          let is = sym (answered owed text d) in inr (inr (inr (subst IsOptional is optional, (text, subst (λ s. Owes command bytes s text) is has))))
+      one status line has (inr (inr optional)) = inr (inr (inl optional))
 
   -- and `check` answers Done for an accepted input
   pub accepted : (left : Option (List ℕ)) → ComesOut Check left result taken after → IfSome left (λ input. (file : Content) → IsAccepted input file → (result ≡ Done) ⊎ (result ≡ Memory))
@@ -240,9 +255,10 @@ memory_answers result text taken after write_rose (inl d) write quiet = d.0
 memory_answers result text taken after write_rose (inr d) write quiet = absurd (quiet (write d.0))
 
 pub any_complete : (left : Option (List ℕ)) (command : Command) (result : Status) → result ≡ Memory
-    → IfSome left (λ input. (status : Status) (text : List ℕ) → Owes command input status text → (result ≡ status) ⊎ (result ≡ Memory))
+    → IfSome left (λ input. (status : Status) (text : List ℕ) → Owes command input status text
+    → (result ≡ status) ⊎ ((result ≡ Memory) ⊎ (IsOptional status ⊎ (IsOptional result × ((line : List ℕ) × Owes command input result line)))))
 any_complete None command result e = tt
-any_complete (Some bytes) command result e = λ status text owes. inr e
+any_complete (Some bytes) command result e = λ status text owes. inr (inl e)
 
 pub any_accepted : (left : Option (List ℕ)) (result : Status) → result ≡ Memory → IfSome left (λ input. (file : Content) → IsAccepted input file → (result ≡ Done) ⊎ (result ≡ Memory))
 any_accepted None result e = tt

@@ -7,13 +7,32 @@ use Rattle.tri_core.specs.declared.half.Half.{Half}
 use Rattle.cone_points.specs.Angles.{AreTurns, IsGenus}
 use Rattle.delaunay_flip.specs.Bases.{Ending, EndsListed}
 use Rattle.answer_text.specs.declared.status.Status.{Status}
-use Rattle.answer_text.specs.declared.status.Status.TheVariants.{Done, File}
+use Rattle.answer_text.specs.declared.status.Status.TheVariants.{Done, File, TooWide}
+use Rattle.answer_text.specs.declared.place.Place.TheVariants as places
+use Rattle.answer_text.specs.RegionTexts.{walls_and_corners_text}
+use Rattle.quad_field.specs.declared.formula.Formula.{Formula}
+use Rattle.parabola_region.specs.WallLists.{PlainWall, IsWallList}
+use Rattle.parabola_region.specs.Corners.{IsCornerList}
+use Rattle.parabola_region.specs.declared.corner.Corner.{Corner}
+use Rattle.parabola_region.specs.Instances.{IsWideInstance}
 use Rattle.answer_text.specs.Lines.{status_line}
 use Rattle.answer_text.specs.CheckTexts.{counts_text}
 use Rattle.command_words.specs.declared.command.Command.{Command}
-use Rattle.command_words.specs.declared.command.Command.TheVariants.{Check, Base}
+use Rattle.command_words.specs.declared.command.Command.TheVariants.{Check, Base, Region}
 use Rattle.veech_cli.specs.SurfaceFiles.{IsAccepted, IsTriangulationOf, IsRefused}
 use Rattle.veech_cli.specs.Endings.{points_of, status_of_ending, text_of_ending}
+
+-- what `region` answers for a base: Done, with its walls and corners; or that a formula is wide at an instance there
+abbrev pub IsRegionAnswer : ℕ → List Half → Status → List ℕ → Type 0
+IsRegionAnswer d halves status text =
+    ((walls : List PlainWall) × (corners : List Corner) × IsWallList d halves walls × IsCornerList d halves walls corners
+    × (status ≡ Done) × (text ≡ walls_and_corners_text walls corners))
+    ⊎ ((formula : Formula) × IsWideInstance d halves formula × (status ≡ TooWide formula places.Base) × (text ≡ status_line (TooWide formula places.Base)))
+
+-- and for an ending: that of a strict one, and else what `base` answers
+abbrev pub AnswersRegion : ℕ → Point → Ending → Status → List ℕ → Type 0
+AnswersRegion d at (Ending.strict later n) status text = IsRegionAnswer d later status text
+AnswersRegion d at other status text = (status ≡ status_of_ending at other) × (text ≡ text_of_ending at other)
 
 -- what a command answers for an accepted file and its triangulation: a status and a text
 abbrev pub Answers : Command → Content → List Half → Status → List ℕ → Type 0
@@ -25,6 +44,10 @@ Answers Check file halves status text =
 Answers (Base flips) file halves status text =
     (at : Point) × (ending : Ending) × EndsListed file.field halves (points_of file) flips at ending
     × (status ≡ status_of_ending at ending) × (text ≡ text_of_ending at ending)
+-- `region`: how the flipping ends there, and where it ends strictly the region of the base
+Answers (Region flips) file halves status text =
+    (at : Point) × (ending : Ending) × EndsListed file.field halves (points_of file) flips at ending
+    × AnswersRegion file.field at ending status text
 
 -- the refusal of an input as a surface file, with its line
 abbrev pub IsFileRefusal : List ℕ → Status → List ℕ → Type 0
@@ -39,3 +62,7 @@ IsFileAnswer command input status text =
 -- a command owes an input this status with this text: the refusal of the file, or what it answers for it
 abbrev pub Owes : Command → List ℕ → Status → List ℕ → Type 0
 Owes command input status text = IsFileRefusal input status text ⊎ IsFileAnswer command input status text
+
+-- a status that may be answered where it is owed, but needn't be: a wide formula that the answer may do without
+abbrev pub IsOptional : Status → Type 0
+IsOptional status = (formula : Formula) × (status ≡ TooWide formula places.Base)

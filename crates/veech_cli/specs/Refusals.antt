@@ -7,9 +7,11 @@ use Rattle.gluing.specs.declared.fault.GlueFault.{GlueFault}
 use Rattle.gluing.specs.declared.fault.GlueFault.TheVariants as glue_faults
 use Rattle.delaunay_flip.specs.declared.base.BaseFault.{BaseFault}
 use Rattle.delaunay_flip.specs.declared.base.BaseFault.TheVariants as base_faults
+use Rattle.parabola_region.specs.declared.fault.RegionFault.{RegionFault}
+use Rattle.parabola_region.specs.declared.fault.RegionFault.TheVariants as region_faults
 use Rattle.answer_text.specs.declared.status.Status.{Status}
 use Rattle.answer_text.specs.declared.status.Status.TheVariants.{File, NotStrict, FlipsEnded, TooWide, ReadFault, Memory}
-use Rattle.answer_text.specs.declared.place.Place.TheVariants.{Flips}
+use Rattle.answer_text.specs.declared.place.Place.TheVariants.{Flips, Base}
 
 -- the source wasn't read
 abbrev pub status_of_reading : ReadAll → Status
@@ -33,3 +35,8 @@ status_of_base (base_faults.NotStrict edge) = NotStrict edge
 status_of_base (base_faults.FlipsEnded point) = FlipsEnded point
 status_of_base (base_faults.Wide formula flips edge) = TooWide formula (Flips flips edge)
 status_of_base base_faults.Memory = Memory
+
+-- the region of the base isn't found
+abbrev pub status_of_region : RegionFault → Status
+status_of_region (region_faults.Wide formula) = TooWide formula Base
+status_of_region region_faults.Memory = Memory

@@ -5,7 +5,11 @@ use Rattle.surface_text.specs.declared.file.Point.{Point}
 use Rattle.gluing.specs.Gluings.{Gluing, gluing_of}
 use Rattle.tri_core.specs.Triangulation.{Triangulation}
 use Rattle.answer_text.specs.declared.status.Status.{Status}
-use Rattle.answer_text.specs.declared.status.Status.TheVariants.{Done, File, Words, WriteFault, Memory}
+use Rattle.answer_text.specs.declared.status.Status.TheVariants.{Done, File, Words, TooWide, WriteFault, Memory}
+use Rattle.answer_text.specs.declared.place.Place.TheVariants as places
+use Rattle.quad_field.specs.declared.formula.Formula.{Formula}
+use Rattle.tri_core.specs.declared.half.Half.{Half}
+use Rattle.parabola_region.specs.Instances.{IsWideInstance}
 use Rattle.answer_text.specs.Statuses.{HasBasePoint}
 use Rattle.answer_text.specs.Lines.{status_line}
 use Rattle.command_words.specs.declared.command.Command.{Command}
@@ -36,3 +40,7 @@ pub record IsRefusal (status : Status) : Type 0 where
 -- the status is owed to the input with its line, or memory ran out
 abbrev pub IsRefusalOf : Command → List ℕ → Status → Type 0
 IsRefusalOf command input status = IsRefusal status × (Owes command input status (status_line status) ⊎ (status ≡ Memory))
+
+-- the status says that a formula is wide at an instance at the triangulation, or that memory ran out
+abbrev pub RefusesRegion : ℕ → List Half → Status → Type 0
+RefusesRegion d halves status = ((formula : Formula) × IsWideInstance d halves formula × (status ≡ TooWide formula places.Base)) ⊎ (status ≡ Memory)

@@ -30,7 +30,11 @@ pub(crate) fn base(alloc: Global, input: &[u8], flips: u32) -> Result<Vec<u8>, R
 }
 
 /// The base of a surface, at its base points, or at the standard points where it has none.
-fn base_of_surface(alloc: Global, surface: &Surface, flips: u32) -> Result<Base, BaseFault>
+pub(crate) fn base_of_surface(
+    alloc: Global,
+    surface: &Surface,
+    flips: u32,
+) -> Result<Base, BaseFault>
     requires field { surface.now.field ≡ surface.now.tri.field }
     requires points { AllByRecursion IsBasePoint surface.now.bases.items }
     ensures { IsRight surface.now.tri (EndsListed surface.now.tri.field surface.now.tri.halves (or_standard surface.now.bases.items) flips) result }

@@ -6,6 +6,7 @@ mod check;
 pub mod laws;
 mod program;
 mod refusal;
+mod region;
 mod run;
 mod surface;
 

@@ -1,13 +1,14 @@
 //! Why a run has no output: the status that says so.
 
 ghost use Rattle.std.specs.Prelude.{◌≡◌};
-ghost use Rattle.veech_cli.specs.Refusals.{status_of_reading, status_of_text, status_of_gluing, status_of_base};
+ghost use Rattle.veech_cli.specs.Refusals.{status_of_reading, status_of_text, status_of_gluing, status_of_base, status_of_region};
 ghost use Rattle.answer_text.specs.declared.status.Status.TheVariants.{Memory};
 
 use answer_text::{Place, Status};
 use delaunay_flip::BaseFault;
 use gluing::GlueFault;
 use io_ends::ReadAll;
+use parabola_region::RegionFault;
 use std::alloc::{AllocError, AllocFailed};
 use surface_text::TextFault;
 
@@ -70,6 +71,21 @@ impl From<BaseFault> for Refusal {
                 place: Place::Flips { flips, edge },
             },
             BaseFault::Memory => Status::Memory,
+        };
+        Refusal { status }
+    }
+}
+
+impl From<RegionFault> for Refusal {
+    ghost from_gives = { λ fault refusal. refusal.status ≡ status_of_region fault };
+
+    fn from(fault: RegionFault) -> Refusal {
+        let status = match fault {
+            RegionFault::Wide(formula) => Status::TooWide {
+                formula,
+                place: Place::Base,
+            },
+            RegionFault::Memory => Status::Memory,
         };
         Refusal { status }
     }

@@ -10,13 +10,14 @@ ghost use Rattle.answer_text.specs.Lines.{status_line};
 ghost use Rattle.command_words.specs.declared.command.Command.{Command as CommandValue};
 ghost use Rattle.command_words.specs.Commands.{Names, AreTaken};
 ghost use Rattle.veech_cli.specs.SurfaceFiles.{IsAccepted};
-ghost use Rattle.veech_cli.specs.Owed.{Owes};
+ghost use Rattle.veech_cli.specs.Owed.{Owes, IsOptional};
 ghost use Rattle.veech_cli.specs.Runs.{SettlesOn, Settles, Delivers, IsInput, SomeInput, IsReadWhole, SaysNothing};
 ghost use Rattle.veech_cli.specs.Surfaces.{IsRefusal, IsRefusalOf};
 
 use super::base::base;
 use super::check::check;
 use super::refusal::Refusal;
+use super::region::region;
 use super::{Status, WordList};
 use answer_text::fault_line;
 use command_words::{Command, read_command};
@@ -45,12 +46,12 @@ pub fn run_plain<S: Source, K: Sink>(
         × Delivers status text result (K.taken sink.old) (K.taken sink.new) }
 
     // The other way round: where no end failed and the source tells its bytes, what the command owes the input is answered,
-    // but for want of memory.
+    // but for want of memory. A wide formula that the answer may do without needn't be answered, and may be where it is owed.
     ensures complete { (command : CommandValue) → Names words.now command
         → ¬ (Rose (S.faults source.old) (S.faults source.new))
         → ¬ (Rose (K.faults sink.old) (K.faults sink.new))
         → IfSome (S.left source.old) (λ input. (status : Answer) (text : List ℕ) → Owes command input status text
-        → (result ≡ status) ⊎ (result ≡ Status.Memory)) }
+        → (result ≡ status) ⊎ (result ≡ Status.Memory) ⊎ IsOptional status ⊎ (IsOptional result × ((line : List ℕ) × Owes command input result line))) }
     // So `check` answers Done where the input is accepted.
     ensures accepted { Names words.now Command.Check
         → ¬ (Rose (S.faults source.old) (S.faults source.new))
@@ -146,6 +147,7 @@ fn output(alloc: Global, command: Command, input: &[u8]) -> Result<Vec<u8>, Refu
     match command {
         Command::Check => check(alloc, input),
         Command::Base { flips } => base(alloc, input, flips),
+        Command::Region { flips } => region(alloc, input, flips),
     }
 }
 

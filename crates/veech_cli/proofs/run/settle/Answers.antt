@@ -1,5 +1,5 @@
-use Rattle.std.proofs.lemmas.Result.{err_from_is_err_and}
-use Rattle.veech_cli.proofs.Settling.{reading_settles, reading_whole}
+use Rattle.std.proofs.lemmas.Result.{err_from_is_err_and, IfOk-at_ok}
+use Rattle.veech_cli.proofs.Settling.{reading_settles, reading_whole, output_settles}
 use Rattle.veech_cli.proofs.run.settle.Goals as goal
 
 pub returns-in_err-input-clause-refused : goal.returns-in_err-input-clause-refused
@@ -11,3 +11,8 @@ pub returns-in_err-input-clause-read_whole : goal.returns-in_err-input-clause-re
 returns-in_err-input-clause-read_whole g c =
     let p = err_from_is_err_and c.from_residual.result c.from_residual.ensures.1 in
     rw (p.1, p.2) (reading_whole c.args.command (g.S.Source.left c.args.source.now) (g.S.Source.left c.read_all.new.source) c.read_all.result c.in_err-input.field-0.0 c.in_err-input.was c.read_all.ensures.reads)
+
+pub returns-clause-refused : goal.returns-clause-refused
+returns-clause-refused g c =
+    output_settles c.args.command (g.S.Source.left c.args.source.now) c.as_slice.result.now c.output.result
+    (rw c.as_slice.ensures.value (IfOk-at_ok _ c.in_ok-input.was c.read_all.ensures.all)) c.output.ensures.refused

@@ -1,0 +1,14 @@
+use Rattle.std.proofs.Common.{map, string_bytes, refl, inl, arith}
+use Rattle.command_words.specs.Grammar.{region_row, flips_option}
+use Rattle.command_words.proofs.ValueLemmas.{number_held, number_read}
+use Rattle.command_words.proofs.command.region.Goals as goal
+
+pub number_of-flips-requires-clause-given : goal.number_of-flips-requires-clause-given
+number_of-flips-requires-clause-given c =
+    let (options, plain, line) = c.requires in
+    number_held region_row (tt, tt) flips_option (inl refl) _ refl options plain _ (c.in_ok-matches.ensures options plain line) line.given (omega arith)
+
+pub returns : goal.returns
+returns c =
+    let (options, plain, line) = c.requires in
+    (options, plain, line, number_read region_row (tt, tt) flips_option (inl refl) _ refl options plain _ (c.in_ok-matches.ensures options plain line) c.number_of-flips.result c.number_of-flips.ensures)
