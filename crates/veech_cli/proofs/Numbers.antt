@@ -5,7 +5,7 @@ use Rattle.answer_text.specs.declared.status.Status.{Status}
 use Rattle.answer_text.specs.declared.status.Status.TheVariants.{Memory}
 use Rattle.answer_text.specs.Statuses.{number_of}
 use Rattle.command_words.specs.declared.command.Command.{Command}
-use Rattle.veech_cli.specs.Owed.{Owes}
+use Rattle.veech_cli.specs.Owed.{Owes, IsOptional}
 use Rattle.veech_cli.specs.Runs.{Settles, IsInput, Delivers}
 
 -- how a run on the words that are given comes out
@@ -15,18 +15,27 @@ pub by_number : (words given : List (List ℕ)) (left taken after : Option (List
 by_number words given left taken after result number same ends (input, status, text, is, settles, delivers) =
     (input, status, text, result, is, subst (λ w. Settles w input status text) same settles, delivers, ends)
 
--- and what is owed has its number
+-- the number of what is owed: of this status, or of want of memory, or of a wide formula that the answer may do without
+abbrev pub IsNumberOwed : Command → List ℕ → ℕ → Status → Type 0
+IsNumberOwed command input number status =
+    (number ≡ number_of status) ⊎ ((number ≡ number_of Memory)
+    ⊎ (IsOptional status ⊎ ((last : Status) × (line : List ℕ) × IsOptional last × Owes command input last line × (number ≡ number_of last))))
+
 pub owed_by_number : (command : Command) (left : Option (List ℕ)) (result : Status) (number : ℕ) → number ≡ number_of result
-    → IfSome left (λ input. (status : Status) (text : List ℕ) → Owes command input status text → (result ≡ status) ⊎ (result ≡ Memory))
-    → IfSome left (λ input. (status : Status) (text : List ℕ) → Owes command input status text → (number ≡ number_of status) ⊎ (number ≡ number_of Memory))
+    → IfSome left (λ input. (status : Status) (text : List ℕ) → Owes command input status text
+    → (result ≡ status) ⊎ ((result ≡ Memory) ⊎ (IsOptional status ⊎ (IsOptional result × ((line : List ℕ) × Owes command input result line)))))
+    → IfSome left (λ input. (status : Status) (text : List ℕ) → Owes command input status text → IsNumberOwed command input number status)
 owed_by_number command None result number ends h = tt
-owed_by_number command (Some bytes) result number ends h = λ status text owes. elim (h status text owes) [
-  | inl e ↦ inl (ends ∙ ap number_of e)
-  | inr e ↦ inr (ends ∙ ap number_of e)
-]
+owed_by_number command (Some bytes) result number ends h = λ status text owes. one status (h status text owes)
+  where
+    one : (status : Status) → (result ≡ status) ⊎ ((result ≡ Memory) ⊎ (IsOptional status ⊎ (IsOptional result × ((line : List ℕ) × Owes command bytes result line)))) → IsNumberOwed command bytes number status
+    one status (inl e) = inl (ends ∙ ap number_of e)
+    one status (inr (inl e)) = inr (inl (ends ∙ ap number_of e))
+    one status (inr (inr (inl optional))) = inr (inr (inl optional))
+    one status (inr (inr (inr (optional, line, owes)))) = inr (inr (inr (result, line, optional, owes, ends)))
 
 -- want of memory has its own
 pub memory_number : (command : Command) (left : Option (List ℕ)) (number : ℕ) → number ≡ number_of Memory
-    → IfSome left (λ input. (status : Status) (text : List ℕ) → Owes command input status text → (number ≡ number_of status) ⊎ (number ≡ number_of Memory))
+    → IfSome left (λ input. (status : Status) (text : List ℕ) → Owes command input status text → IsNumberOwed command input number status)
 memory_number command None number ends = tt
-memory_number command (Some bytes) number ends = λ status text owes. inr ends
+memory_number command (Some bytes) number ends = λ status text owes. inr (inl ends)

@@ -7,7 +7,7 @@ ghost use Rattle.answer_text.specs.declared.status.Status.{Status as Answer};
 ghost use Rattle.answer_text.specs.Statuses.{number_of};
 ghost use Rattle.command_words.specs.declared.command.Command.{Command};
 ghost use Rattle.command_words.specs.Commands.{Names, AreTaken};
-ghost use Rattle.veech_cli.specs.Owed.{Owes};
+ghost use Rattle.veech_cli.specs.Owed.{Owes, IsOptional};
 ghost use Rattle.veech_cli.specs.Runs.{Settles, Delivers, IsInput};
 ghost use Rattle.veech_cli.specs.Programs.{words_given};
 
@@ -37,12 +37,14 @@ pub fn run_program<S: Source, K: Sink>(
         × Delivers status text last (K.taken sink.old) (K.taken sink.new)
         × (exit_status result ≡ number_of last))
         ⊎ ((exit_status result ≡ number_of Answer.Memory) × (source.new ≡ source.old) × (sink.new ≡ sink.old)) }
-    // The other way round: where no end failed and the source tells its bytes, the number of what is owed, but for want of memory.
+    // The other way round: where no end failed and the source tells its bytes, the number of what is owed, but for want of memory,
+    // and for a wide formula that the answer may do without.
     ensures complete { (command : Command) → Names (words_given args) command
         → ¬ (Rose (S.faults source.old) (S.faults source.new))
         → ¬ (Rose (K.faults sink.old) (K.faults sink.new))
         → IfSome (S.left source.old) (λ input. (status : Answer) (text : List ℕ) → Owes command input status text
-        → (exit_status result ≡ number_of status) ⊎ (exit_status result ≡ number_of Answer.Memory)) }
+        → (exit_status result ≡ number_of status) ⊎ (exit_status result ≡ number_of Answer.Memory)
+        ⊎ IsOptional status ⊎ ((last : Answer) × (line : List ℕ) × IsOptional last × Owes command input last line × (exit_status result ≡ number_of last))) }
     ensures words { AreTaken (words_given args) → ¬ (exit_status result ≡ number_of Answer.Words) }
     ensures unread { ¬ (AreTaken (words_given args)) → source.new ≡ source.old }
     // An end is blamed only where its count of faults rose.

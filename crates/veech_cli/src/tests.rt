@@ -65,6 +65,34 @@ const SHEARED_BASE: &[u8] =
 const TORUS_BASE: &[u8] =
     b"base 1/10 11/10\nflips 1\nhalf 0 0,-1 4\nhalf 1 1,0 5\nhalf 2 -1,1 3\nhalf 3 1,-1 2\nhalf 4 0,1 0\nhalf 5 -1,0 1\nend\n";
 
+/// An octagon with opposite sides glued, whose numbers are near 700.
+const WIDE_OCTAGON: &[u8] =
+    b"flat 1\nfield 2\npolygon 585+513r,527-39r -540+266r,-542+627r 354-671r,69+185r -490-695r,376-182r -585-513r,-527+39r 540-266r,542-627r -354+671r,-69-185r 490+695r,-376+182r\nglue 0.0 0.4\nglue 0.1 0.5\nglue 0.2 0.6\nglue 0.3 0.7\nend\n";
+
+/// The region of the base of the square torus at 1/10 11/10.
+const TORUS_REGION: &[u8] =
+    b"region 3\nwall 1 -1 0 edges 0\nwall 0 -1 1 edges 1\nwall 0 1 0 edges 2\nideal 0 1 1 1 1\nideal 0 2 0 0 1\nideal 1 2 1 0 0\nend\n";
+
+/// That of three squares in an L: the same lines, each of three edges.
+const L_REGION: &[u8] =
+    b"region 3\nwall 1 -1 0 edges 0 4 12\nwall 0 -1 1 edges 1 5 7\nwall 0 1 0 edges 2 8 14\nideal 0 1 1 1 1\nideal 0 2 0 0 1\nideal 1 2 1 0 0\nend\n";
+
+/// That of a rectangle with flat corners under a square.
+const FLAT_REGION: &[u8] =
+    b"region 3\nwall 1 -1 0 edges 0 4 12\nwall 0 -1 1 edges 1 5 11\nwall 0 1 0 edges 2 3 14\nideal 0 1 1 1 1\nideal 0 2 0 0 1\nideal 1 2 1 0 0\nend\n";
+
+/// That of the regular octagon: one inner corner, at z with |z| = 1 and real part 0, where the octagon has its symmetry.
+const OCTAGON_REGION: &[u8] =
+    b"region 3\nwall 2+1r -2-2r 0+1r edges 0 4 8\nwall -1-1r 0 1+1r edges 1 5 6\nwall 3+2r 6+4r -3-2r edges 3 7\nideal 0 1 3+2r 3+2r 3+2r\nideal 0 2 3+2r 7+5r 17+12r\ninner 1 2 7+5r 0 7+5r\nend\n";
+
+/// That of the golden L.
+const GOLDEN_REGION: &[u8] =
+    b"region 3\nwall 1 1-1r 0 edges 0 4\nwall 0 1-1r 1 edges 1 5\nwall 0 1 0 edges 2 8 14\ninner 0 1 -1+1r 1 -1+1r\nideal 0 2 0 0 1\nideal 1 2 1 0 0\nend\n";
+
+/// That of two pentagons.
+const PENTAGON_REGION: &[u8] =
+    b"region 3\nwall 1 1 0 edges 1 3 7\nwall 1 -1-1r 0 edges 2 11\nwall -1-1r 0 1+1r edges 5 14\nideal 0 1 0 0 2+1r\nideal 0 2 1+1r -1-1r 1+1r\ninner 1 2 6+2r 1+1r 6+2r\nend\n";
+
 /// How the ends of a run behave: the most that a call moves, the source's call that fails, and the sink's room.
 #[derive(Clone, Copy)]
 struct Ends {
@@ -245,7 +273,7 @@ fn checks_every_example(rt: HostRuntime) -> Result<(), Fail> {
 
 #[test]
 fn refuses_words(rt: HostRuntime) -> Result<(), Fail> {
-    let rows: [&[&str]; 26] = [
+    let rows: [&[&str]; 38] = [
         &[],
         &["check", "check"],
         &["plan"],
@@ -272,6 +300,18 @@ fn refuses_words(rt: HostRuntime) -> Result<(), Fail> {
         &["base", ""],
         &["base", "5"],
         &["--flips", "5", "base"],
+        &["base", "--"],
+        &["base", "-0"],
+        &["base", "--flips=-0"],
+        &["base", "--flips=+5"],
+        &["base", "--flips= 5"],
+        &["base", "--flips", "05"],
+        &["base", "--flips", "5", "--flips=5"],
+        &["base", "--flips=5", "--flips", "5"],
+        &["base", "5", "--flips", "5"],
+        &["base", "--flips", "5", "5"],
+        &["region", "--limit", "5"],
+        &["reg"],
     ];
     for words in rows {
         let (ended, written) = run(rt.alloc(), words, TORUS, moving(4096))?;
@@ -469,6 +509,27 @@ fn refuses_every_proper_prefix(rt: HostRuntime) -> Result<(), Fail> {
         if at_start {
             line = line.wrapping_add(1);
         }
+    }
+    Ok(())
+}
+
+#[test]
+fn finds_regions(rt: HostRuntime) -> Result<(), Fail> {
+    let rows: [(&[u8], u8, &[u8]); 9] = [
+        (TORUS, 0, TORUS_REGION),
+        (L_THREE_SQUARES, 0, L_REGION),
+        (FLAT_CORNERS, 0, FLAT_REGION),
+        (OCTAGON, 0, OCTAGON_REGION),
+        (GOLDEN_L, 0, GOLDEN_REGION),
+        (DOUBLE_PENTAGON, 0, PENTAGON_REGION),
+        (LARGE_TORUS, 6, b"fault wide F2 flips 0 edge 0\n"),
+        (WIDE_OCTAGON, 6, b"fault wide F6 base\n"),
+        (b"", 3, b"fault file 1 1 NoLine\n"),
+    ];
+    for (input, status, text) in rows {
+        let (ended, written) = run(rt.alloc(), &["region"], input, moving(4096))?;
+        assert_eq!(rt; ended, status);
+        assert_eq!(rt; written.as_slice(), text);
     }
     Ok(())
 }
