@@ -32,7 +32,7 @@ owed_by_number command (Some bytes) result number ends h = λ status text owes. 
     one status (inl e) = inl (ends ∙ ap number_of e)
     one status (inr (inl e)) = inr (inl (ends ∙ ap number_of e))
     one status (inr (inr (inl optional))) = inr (inr (inl optional))
-    one status (inr (inr (inr (optional, line, owes)))) = inr (inr (inr (result, line, optional, owes, ends)))
+    one status (inr (inr (inr (optional, (line, owes))))) = inr (inr (inr (result, line, optional, owes, ends)))
 
 -- want of memory has its own
 pub memory_number : (command : Command) (left : Option (List ℕ)) (number : ℕ) → number ≡ number_of Memory
