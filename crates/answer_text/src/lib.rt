@@ -17,3 +17,6 @@ pub use half_edges::base_text;
 pub use place::Place;
 pub use region_lines::region_text;
 pub use status::{Status, status_number};
+
+#[cfg(test)]
+mod tests;
