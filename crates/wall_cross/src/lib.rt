@@ -1,0 +1,4 @@
+//! Crossing a wall: every hinge that vanishes on it is flipped.
+//! What is behind a wall is strictly Delaunay at some half-plane point, and crossing back gives the first triangulation up to a translation.
+#![tactic(auto)]
+
