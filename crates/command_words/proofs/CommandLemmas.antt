@@ -7,13 +7,14 @@ use Rattle.plane.specs.Spelling.{natural_text}
 use Rattle.plane.proofs.CallerLemmas.{natural_text_injective}
 use Rattle.command_words.specs.declared.rows.NumberBounds.{NumberBounds}
 use Rattle.command_words.specs.declared.command.Command.{Command}
-use Rattle.command_words.specs.declared.command.Command.TheVariants.{Check, Base, Region}
+use Rattle.command_words.specs.declared.command.Command.TheVariants.{Check, Base, Region, Path}
 use Rattle.command_words.specs.Lines.{OptionRow, CommandRow, Given, given_words, IsGivenOf, IsLine, IsTaken, number_given}
-use Rattle.command_words.specs.Grammar.{check_row, base_row, region_row, flips_option}
+use Rattle.command_words.specs.Grammar.{check_row, base_row, region_row, path_row, flips_option}
 use Rattle.command_words.specs.Commands.{IsNumberOf, row_of_command, AreRead, Names, AreTaken}
 use Rattle.command_words.specs.Fronts.{IsRow}
 use Rattle.command_words.proofs.GivenLemmas.{one_given}
 use Rattle.command_words.proofs.LineLemmas.{plain_first}
+use Rattle.command_words.proofs.ValueLemmas.{same_values}
 
 -- an option with a number has one in every line
 some_number : (one : OptionRow) (options : List Given) → IsSome one.numbers → (n : ℕ) × IsNumberOf one options n
@@ -31,16 +32,10 @@ base_taken words (options, plain, line) = let (flips, is) = some_number flips_op
 pub region_taken : (words : List (List ℕ)) → IsTaken region_row words → AreTaken words
 region_taken words (options, plain, line) = let (flips, is) = some_number flips_option options refl in (Region flips, (options, plain, line, is))
 
--- ---- a line has one spelling
-same_values : (plain other : List ℕ) → map natural_text plain ≡ map natural_text other → plain ≡ other
-same_values [] [] e = refl
-same_values [] (m ∷ other) e = absurd (cc)
-same_values (n ∷ plain) [] e = absurd (cc)
-same_values (n ∷ plain) (m ∷ other) e =
-    let head : natural_text n ≡ natural_text m = cc in
-    let tail : map natural_text plain ≡ map natural_text other = cc in
-    ap₂ (λ (k : ℕ) (ks : List ℕ). k ∷ ks) (natural_text_injective n m head) (same_values plain other tail)
+pub path_taken : (words : List (List ℕ)) → IsTaken path_row words → AreTaken words
+path_taken words (options, plain, line) = let (flips, is) = some_number flips_option options refl in (Path flips plain, (options, plain, line, (is, refl)))
 
+-- ---- a line has one spelling
 same_line : (row : CommandRow) → IsRow row → (options others : List Given) (plain values : List ℕ) → AllByRecursion (IsGivenOf row.options) options → AllByRecursion (IsGivenOf row.options) others
     → flat_map given_words options ++ map natural_text plain ≡ flat_map given_words others ++ map natural_text values → (options ≡ others) × (plain ≡ values)
 same_line row is [] [] plain values given also e = (refl, same_values plain values e)
@@ -78,6 +73,9 @@ base_is = ((((λ e. cc), flips_letters, (λ e. cc)), tt), (tt, tt))
 region_is : IsRow region_row
 region_is = ((((λ e. cc), flips_letters, (λ e. cc)), tt), (tt, tt))
 
+path_is : IsRow path_row
+path_is = ((((λ e. cc), flips_letters, (λ e. cc)), tt), (tt, tt))
+
 -- lines of rows with different words differ
 other_word : (row other : CommandRow) (words : List (List ℕ)) → ¬ (row.word ≡ other.word) → (options others : List Given) (plain values : List ℕ) → IsLine row options plain words → ¬ (IsLine other others values words)
 other_word row other words apart options others plain values line also =
@@ -93,17 +91,35 @@ check_region e = cc
 base_region : ¬ (codes "base" ≡ codes "region")
 base_region e = cc
 
+check_path : ¬ (codes "check" ≡ codes "path")
+check_path e = let first : get_or (codes "check") 0 0 ≡ get_or (codes "path") 0 0 = ap (λ (word : List ℕ). get_or word 0 0) e in omega (arith, first)
+
+base_path : ¬ (codes "base" ≡ codes "path")
+base_path e = let first : get_or (codes "base") 0 0 ≡ get_or (codes "path") 0 0 = ap (λ (word : List ℕ). get_or word 0 0) e in omega (arith, first)
+
+region_path : ¬ (codes "region" ≡ codes "path")
+region_path e = let first : get_or (codes "region") 0 0 ≡ get_or (codes "path") 0 0 = ap (λ (word : List ℕ). get_or word 0 0) e in omega (arith, first)
+
 pub one_command : (words : List (List ℕ)) (one other : Command) → Names words one → Names words other → one ≡ other
 one_command words Check Check h k = refl
 one_command words Check (Base n) h k = absurd (other_word check_row base_row words check_base h.0 k.0 h.1 k.1 h.2 k.2)
 one_command words Check (Region n) h k = absurd (other_word check_row region_row words check_region h.0 k.0 h.1 k.1 h.2 k.2)
+one_command words Check (Path n choices) h k = absurd (other_word check_row path_row words check_path h.0 k.0 h.1 k.1 h.2 k.2)
 one_command words (Base m) Check h k = absurd (other_word check_row base_row words check_base k.0 h.0 k.1 h.1 k.2 h.2)
 one_command words (Base m) (Region n) h k = absurd (other_word base_row region_row words base_region h.0 k.0 h.1 k.1 h.2 k.2)
+one_command words (Base m) (Path n choices) h k = absurd (other_word base_row path_row words base_path h.0 k.0 h.1 k.1 h.2 k.2)
 one_command words (Region m) Check h k = absurd (other_word check_row region_row words check_region k.0 h.0 k.1 h.1 k.2 h.2)
 one_command words (Region m) (Base n) h k = absurd (other_word base_row region_row words base_region k.0 h.0 k.1 h.1 k.2 h.2)
+one_command words (Region m) (Path n choices) h k = absurd (other_word region_row path_row words region_path h.0 k.0 h.1 k.1 h.2 k.2)
+one_command words (Path m choices) Check h k = absurd (other_word check_row path_row words check_path k.0 h.0 k.1 h.1 k.2 h.2)
+one_command words (Path m choices) (Base n) h k = absurd (other_word base_row path_row words base_path k.0 h.0 k.1 h.1 k.2 h.2)
+one_command words (Path m choices) (Region n) h k = absurd (other_word region_row path_row words region_path k.0 h.0 k.1 h.1 k.2 h.2)
 one_command words (Base m) (Base n) (options, plain, line, is) (others, values, also, so) =
     let same = one_line base_row base_is words options others plain values line also in
     ap Base (same_number flips_option options m n is (subst (λ os. IsNumberOf flips_option os n) (sym same.0) so))
 one_command words (Region m) (Region n) (options, plain, line, is) (others, values, also, so) =
     let same = one_line region_row region_is words options others plain values line also in
     ap Region (same_number flips_option options m n is (subst (λ os. IsNumberOf flips_option os n) (sym same.0) so))
+one_command words (Path m choices) (Path n others) (options, plain, line, is) (also_options, values, also, so) =
+    let same = one_line path_row path_is words options also_options plain values line also in
+    ap₂ Path (same_number flips_option options m n is.0 (subst (λ os. IsNumberOf flips_option os n) (sym same.0) so.0)) (is.1 ∙ same.1 ∙ sym so.1)

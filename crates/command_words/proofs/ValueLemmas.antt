@@ -1,8 +1,9 @@
 -- The number of an option, from the matches of a line to the line.
-use Rattle.std.proofs.Common.{◌≡◌, ◌∙◌, ℕ, ◌^◌, ◌<◌, ◌≤◌, Bool, true, false, true≢false, cond, List, [], ◌∷◌, map, Option, Some, None, IsSome, MatchOption, option_map, refl, ap, sym, subst, arith}
+use Rattle.std.proofs.Common.{◌≡◌, ◌∙◌, ℕ, zero, suc, ◌+◌, ◌++◌, length, take, get_or, ◌^◌, ◌<◌, ◌≤◌, Bool, true, false, true≢false, cond, List, [], ◌∷◌, map, Option, Some, None, IsSome, MatchOption, option_map, refl, ap, ap₂, sym, subst, arith}
 use Rattle.std.specs.Prelude.{IfSome, IsSomeAnd}
 use Rattle.std.specs.List.{AllByRecursion}
 use Rattle.std.specs.Str.{bytes_eq}
+use Rattle.std.proofs.lemmas.List.{take_more, map-append}
 use Rattle.std.proofs.lemmas.Slice.Eq.{bytes_eq-Decides}
 use Rattle.clap.specs.Matches.{first_value}
 use Rattle.clap.specs.declared.parser.matches.Found.{Found}
@@ -10,7 +11,7 @@ use Rattle.plane.specs.Spelling.{natural_text}
 use Rattle.plane.proofs.CallerLemmas.{natural_text_injective}
 use Rattle.command_words.specs.declared.rows.NumberBounds.{NumberBounds}
 use Rattle.command_words.specs.Lines.{OptionRow, CommandRow, Value, nothing, apart, joined, Given, Takes, IsGivenOf, AreDistinct, number_with, number_given}
-use Rattle.command_words.specs.Parsers.{IsOption, HoldsLine}
+use Rattle.command_words.specs.Parsers.{IsOption, HoldsLine, values_text}
 use Rattle.command_words.specs.Commands.{IsNumberOf}
 use Rattle.command_words.proofs.FoundLemmas.{takes_of}
 
@@ -50,3 +51,47 @@ module _ (row : CommandRow) (distinct : AreDistinct (map (λ o. o.name) row.opti
             → MatchOption o (IsSomeAnd one.numbers (λ numbers. r ≡ numbers.unless_given)) (λ given. r ≡ given)
         at None h = h
         at (Some n) h = natural_text_injective r n (sym h)
+
+-- values below a bound of 32 bits have 32 bits
+pub small_values : (bound : ℕ) (plain : List ℕ) → bound < 2 ^ 32 → AllByRecursion (λ n. n < bound) plain → AllByRecursion (λ n. n < 2 ^ 32) plain
+small_values bound [] small below = tt
+small_values bound (n ∷ plain) small below = (omega (arith, small, below.0), small_values bound plain small below.1)
+
+-- words spell one list of numbers
+pub same_values : (one other : List ℕ) → map natural_text one ≡ map natural_text other → one ≡ other
+same_values [] [] e = refl
+same_values [] (m ∷ other) e = absurd (cc)
+same_values (n ∷ one) [] e = absurd (cc)
+same_values (n ∷ one) (m ∷ other) e =
+    let head : natural_text n ≡ natural_text m = cc in
+    let tail : map natural_text one ≡ map natural_text other = cc in
+    ap₂ (λ (k : ℕ) (ks : List ℕ). k ∷ ks) (natural_text_injective n m head) (same_values one other tail)
+
+-- the matches hold one list of plain values
+one_text_list : (one other : List ℕ) → values_text one ≡ values_text other → one ≡ other
+one_text_list [] [] e = refl
+one_text_list [] (m ∷ other) e = absurd (cc)
+one_text_list (n ∷ one) [] e = absurd (cc)
+one_text_list (n ∷ one) (m ∷ other) e = same_values (n ∷ one) (m ∷ other) (ap (λ o. or_else o) e)
+  where
+    or_else : Option (List (List ℕ)) → List (List ℕ)
+    or_else None = []
+    or_else (Some texts) = texts
+
+pub same_plain : (one other : List ℕ) (raw : Option (List (List ℕ))) → raw ≡ values_text one → raw ≡ values_text other → one ≡ other
+same_plain one other raw h k = one_text_list one other (sym h ∙ k)
+
+-- the words of numbers are their texts, one by one
+pub number_at : {X : Type 0} (f : X → List ℕ) (words : List X) (plain : List ℕ) (d : X) → map f words ≡ map natural_text plain → AllByRecursion (λ n. n < 2 ^ 32) plain
+    → (i : ℕ) → i < length words → (n : ℕ) × (f (get_or words i d) ≡ natural_text n) × (n < 2 ^ 32)
+number_at f [] plain d e small i under = absurd (omega (arith, under))
+number_at f (w ∷ words) [] d e small i under = absurd (cc)
+number_at f (w ∷ words) (n ∷ plain) d e small zero under = let head : f w ≡ natural_text n = cc in (n, head, small.0)
+number_at f (w ∷ words) (n ∷ plain) d e small (suc i) under = let tail : map f words ≡ map natural_text plain = cc in number_at f words plain d tail small.1 i (omega (arith, under))
+
+-- one number more
+pub numbers_more : {X : Type 0} (f : X → List ℕ) (words : List X) (i : ℕ) (d : X) (numbers more : List ℕ) (n : ℕ) → i < length words → map f (take i words) ≡ map natural_text numbers
+    → f (get_or words i d) ≡ natural_text n → more ≡ numbers ++ n ∷ [] → map f (take (i + 1) words) ≡ map natural_text more
+numbers_more f words i d numbers more n under before here is =
+    ap (map f) (take_more words i d under) ∙ map-append f (take i words) (get_or words i d ∷ [])
+    ∙ ap₂ (λ (xs ys : List (List ℕ)). xs ++ ys) before (ap (λ text. text ∷ []) here) ∙ sym (map-append natural_text numbers (n ∷ [])) ∙ ap (map natural_text) (sym is)

@@ -23,3 +23,7 @@ base_row = record { word = codes "base"; options = flips_option ∷ []; plain = 
 -- `region [--flips N]`
 abbrev pub region_row : CommandRow
 region_row = record { word = codes "region"; options = flips_option ∷ []; plain = no_plain }
+
+-- `path [--flips N] [CHOICE]...`
+abbrev pub path_row : CommandRow
+path_row = record { word = codes "path"; options = flips_option ∷ []; plain = record { fewest = 0; most = 4096; below = 1000 } }

@@ -55,9 +55,13 @@ abbrev pub values_text : List ℕ → Option (List (List ℕ))
 values_text [] = None
 values_text (n ∷ plain) = Some (map natural_text (n ∷ plain))
 
+-- the matches hold these plain values
+abbrev pub HoldsPlain : List ℕ → Found → Type 0
+HoldsPlain plain found = option_map raw_values (matched_of found values_id) ≡ values_text plain
+
 -- the matches hold what a line of the row says: the number that an option is given, whether a flag is given, and the plain values
 pub record HoldsLine (row : CommandRow) (options : List Given) (plain : List ℕ) (found : Found) : Type 0 where
   pub numbers : (option : OptionRow) → IsOption row.options option → IsSome option.numbers → first_value found option.name ≡ option_map natural_text (number_given option.name options)
   pub flags : (option : OptionRow) → IsOption row.options option → IsNone option.numbers
       → MatchBool (is_given option.name options) (one_text found option.name ≡ Some (codes "true")) (IfSome (one_text found option.name) (λ text. text ≡ codes "false"))
-  pub values : option_map raw_values (matched_of found values_id) ≡ values_text plain
+  pub values : HoldsPlain plain found

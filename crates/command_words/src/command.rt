@@ -2,18 +2,18 @@
 
 ghost use Rattle.std.specs.Prelude.{◌≡◌, map, string_bytes, MatchOption, IfOk};
 ghost use Rattle.command_words.specs.Lines.{IsTaken};
-ghost use Rattle.command_words.specs.Grammar.{check_row, base_row, region_row};
+ghost use Rattle.command_words.specs.Grammar.{check_row, base_row, region_row, path_row};
 ghost use Rattle.command_words.specs.Commands.{Names, AreTaken};
 
-use super::WordList;
-use super::grammar::{BASE, CHECK, FLIPS, REGION};
+use super::grammar::{BASE, CHECK, FLIPS, PATH, REGION};
 use super::lines::is_line;
 use super::parsing::parse;
-use super::values::number_of;
+use super::values::{choices_of, number_of};
+use super::{Choices, WordList};
 use std::alloc::{AllocError, Global};
 
 /// A command with what its words say.
-#[derive(Debug, PartialEq, Eq, Drop)]
+#[derive(Drop)]
 pub enum Command {
     /// The counts of the file's triangulation.
     Check,
@@ -21,6 +21,8 @@ pub enum Command {
     Base { flips: u32 },
     /// The walls and corners of the region of that base.
     Region { flips: u32 },
+    /// The end of a walk from that base through the walls that are chosen.
+    Path { flips: u32, choices: Choices },
 }
 
 /// The command that the words name: none exactly where they aren't in the grammar.
@@ -39,6 +41,9 @@ pub fn read_command(alloc: Global, words: &WordList) -> Result<Option<Command>, 
     }
     if is_line(&REGION, words) {
         return Ok(Some(region(alloc, words)?));
+    }
+    if is_line(&PATH, words) {
+        return Ok(Some(path(alloc, words)?));
     }
     Ok(None)
 }
@@ -70,4 +75,15 @@ fn region(alloc: Global, words: &[String]) -> Result<Command, AllocError>
     let matches = parse(alloc, &REGION, words)?;
     let flips = number_of(&matches, &FLIPS);
     Ok(Command::Region { flips })
+}
+
+/// The command of a line of `path`.
+fn path(alloc: Global, words: &[String]) -> Result<Command, AllocError>
+    requires { IsTaken path_row (map string_bytes words.now) }
+    ensures { IfOk result (Names (map string_bytes words.now)) }
+{
+    let matches = parse(alloc, &PATH, words)?;
+    let flips = number_of(&matches, &FLIPS);
+    let choices = choices_of(alloc, &matches)?;
+    Ok(Command::Path { flips, choices })
 }

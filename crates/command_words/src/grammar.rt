@@ -39,3 +39,14 @@ pub(crate) const REGION: CommandRow = CommandRow {
     options: &[FLIPS],
     plain: NO_PLAIN,
 };
+
+/// `path [--flips N] [CHOICE]...`.
+pub(crate) const PATH: CommandRow = CommandRow {
+    word: "path",
+    options: &[FLIPS],
+    plain: PlainBounds {
+        fewest: 0,
+        most: 4096,
+        below: 1000,
+    },
+};

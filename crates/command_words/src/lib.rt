@@ -2,6 +2,7 @@
 //! A list of words is looked at by the grammar, which takes no memory, and a list that it takes is read by clap.
 #![tactic(auto)]
 
+mod choices;
 mod command;
 mod fronts;
 mod grammar;
@@ -12,5 +13,6 @@ mod rows;
 mod values;
 mod words;
 
+pub use choices::Choices;
 pub use command::{Command, read_command};
 pub use words::WordList;

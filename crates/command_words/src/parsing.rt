@@ -15,7 +15,7 @@ use clap::{Arg, ArgAction, ArgMatches, Command as Parser};
 use std::alloc::{AllocError, Global};
 
 /// The id of the plain values.
-const VALUES: &str = "values";
+pub(crate) const VALUES: &str = "values";
 
 /// The matches that clap gives a line of this row.
 ///

@@ -1,12 +1,17 @@
 //! What the matches of a line hold.
 
-ghost use Rattle.std.specs.Prelude.{◌≡◌, ℕ, ◌^◌, ◌<◌, IsSome, IsSomeAnd, IfSome, MatchOption};
+ghost use Rattle.std.specs.Prelude.{◌≡◌, ℕ, List, ◌^◌, ◌<◌, IsSome, IsSomeAnd, IfSome, IfOk, MatchOption, map};
+ghost use Rattle.std.specs.List.{AllByRecursion};
 ghost use Rattle.clap.specs.Matches.{first_value, found_of};
 ghost use Rattle.plane.specs.Spelling.{natural_text};
+ghost use Rattle.command_words.specs.Parsers.{HoldsPlain};
 
+use super::Choices;
+use super::parsing::VALUES;
 use super::rows::OptionRow;
 use clap::ArgMatches;
 use plane::{NaturalWord, read_natural};
+use std::alloc::{AllocError, Global};
 
 /// The number of an option: the one that it is given, or else the one that stands unless it is given.
 pub(crate) fn number_of(matches: &ArgMatches<'_>, option: &OptionRow) -> u32
@@ -32,4 +37,28 @@ fn number_in(word: &str) -> u32
         NaturalWord::Large => unreachable!(),
         NaturalWord::Not => unreachable!(),
     }
+}
+
+/// The plain values of the matches, as choices.
+pub(crate) fn choices_of(alloc: Global, matches: &ArgMatches<'_>) -> Result<Choices, AllocError>
+    requires { (plain : List ℕ) × AllByRecursion (λ n. n < 2 ^ 32) plain × HoldsPlain plain (found_of matches.now) }
+    ensures { IfOk result (λ choices. HoldsPlain choices (found_of matches.now)) }
+{
+    let places = match matches.get_strs(VALUES) {
+        Some(words) => numbers_in(alloc, words)?,
+        None => Vec::new(alloc),
+    };
+    Ok(Choices::new(places))
+}
+
+/// The numbers that words are.
+fn numbers_in(alloc: Global, words: &[&str]) -> Result<Vec<u32>, AllocError>
+    requires { (plain : List ℕ) × AllByRecursion (λ n. n < 2 ^ 32) plain × (map (λ word. word.now) words.now ≡ map natural_text plain) }
+    ensures { IfOk result (λ numbers. map (λ word. word.now) words.now ≡ map natural_text numbers.items) }
+{
+    let mut numbers = Vec::with_capacity(alloc, words.len())?;
+    for word in words {
+        numbers.push(number_in(word))?;
+    }
+    Ok(numbers)
 }
