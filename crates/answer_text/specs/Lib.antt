@@ -3,3 +3,4 @@ pub mod Lines
 pub mod CheckTexts
 pub mod BaseTexts
 pub mod RegionTexts
+pub mod WalkTexts

@@ -6,9 +6,10 @@ use Rattle.quad_field.specs.declared.formula.Formula.TheVariants.{F1, F2, F3, F4
 use Rattle.plane.specs.Spelling.{natural_text}
 use Rattle.surface_text.specs.Spelling.{point_text}
 use Rattle.answer_text.specs.declared.place.Place.{Place}
-use Rattle.answer_text.specs.declared.place.Place.TheVariants.{Flips, Base}
+use Rattle.answer_text.specs.declared.place.Place.TheVariants.{Flips, Base, Walk}
+use Rattle.answer_text.specs.declared.no_cause.NoCause.TheVariants.{Wall}
 use Rattle.answer_text.specs.declared.status.Status.{Status}
-use Rattle.answer_text.specs.declared.status.Status.TheVariants.{Done, Words, File, NotStrict, FlipsEnded, TooWide, ReadFault, WriteFault, Memory}
+use Rattle.answer_text.specs.declared.status.Status.TheVariants.{Done, Words, File, NotStrict, FlipsEnded, TooWide, ReadFault, WriteFault, Memory, No}
 
 -- the names of the causes of a refused file, by their numbers
 abbrev pub cause_names : List (List ℕ)
@@ -42,6 +43,7 @@ formula_name F13 = codes "F13"
 abbrev pub place_text : Place → List ℕ
 place_text (Flips flips edge) = concat (codes "flips " ∷ natural_text flips ∷ codes " edge " ∷ natural_text edge ∷ [])
 place_text Base = codes "base"
+place_text (Walk choice) = concat (codes "walk " ∷ natural_text choice ∷ [])
 
 -- the one line that a status writes in place of output; `Done` and `WriteFault` have none
 abbrev pub status_line : Status → List ℕ
@@ -55,3 +57,4 @@ status_line (TooWide formula place) = concat (codes "fault wide " ∷ formula_na
 status_line ReadFault = codes "fault read\n"
 status_line WriteFault = []
 status_line Memory = codes "fault memory\n"
+status_line (No (Wall place)) = concat (codes "no wall " ∷ natural_text place ∷ codes "\n" ∷ [])

@@ -2,7 +2,7 @@
 use Rattle.std.specs.Prelude.{ℕ, ⊤}
 use Rattle.surface_text.specs.Limits.{IsBasePoint}
 use Rattle.answer_text.specs.declared.status.Status.{Status}
-use Rattle.answer_text.specs.declared.status.Status.TheVariants.{Done, Words, File, NotStrict, FlipsEnded, TooWide, ReadFault, WriteFault, Memory}
+use Rattle.answer_text.specs.declared.status.Status.TheVariants.{Done, Words, File, NotStrict, FlipsEnded, TooWide, ReadFault, WriteFault, Memory, No}
 
 -- the number of each status
 abbrev pub number_of : Status → ℕ
@@ -15,6 +15,7 @@ number_of (TooWide formula place) = 6
 number_of ReadFault = 8
 number_of WriteFault = 9
 number_of Memory = 10
+number_of (No cause) = 11
 
 -- a point that the status names is a base point
 abbrev pub HasBasePoint : Status → Type 0

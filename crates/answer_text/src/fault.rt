@@ -7,6 +7,7 @@ ghost use Rattle.answer_text.specs.Statuses.{HasBasePoint};
 
 use super::cause::name_of;
 use super::formula::name_of_formula;
+use super::no_cause::no_line;
 use super::place::put_place;
 use super::{Place, Status};
 use plane::put_natural;
@@ -29,6 +30,7 @@ pub fn fault_line(alloc: Global, status: &Status) -> Result<Vec<u8>, AllocError>
         Status::ReadFault => Vec::from_slice(alloc, b"fault read\n"),
         Status::WriteFault => Vec::from_slice(alloc, b""),
         Status::Memory => Vec::from_slice(alloc, b"fault memory\n"),
+        Status::No(cause) => no_line(alloc, *cause),
     }
 }
 

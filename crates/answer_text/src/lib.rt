@@ -7,16 +7,20 @@ mod counts;
 mod fault;
 mod formula;
 mod half_edges;
+mod no_cause;
 mod place;
 mod region_lines;
 mod status;
+mod walk_lines;
 
 pub use counts::check_text;
 pub use fault::fault_line;
 pub use half_edges::base_text;
+pub use no_cause::NoCause;
 pub use place::Place;
 pub use region_lines::region_text;
 pub use status::{Status, status_number};
+pub use walk_lines::path_text;
 
 #[cfg(test)]
 mod tests;

@@ -13,6 +13,8 @@ pub enum Place {
     Flips { flips: u32, edge: u32 },
     /// At the base.
     Base,
+    /// On a walk after this many choices: at the walls there, or at the wall that is chosen next.
+    Walk { choice: u32 },
 }
 
 /// Appends a place.
@@ -27,5 +29,9 @@ pub(crate) fn put_place(alloc: Global, out: &mut Vec<u8>, place: &Place) -> Resu
             put_natural(alloc, out, u64::from(*edge))
         }
         Place::Base => Ok(out.extend_from_slice(b"base")?),
+        Place::Walk { choice } => {
+            out.extend_from_slice(b"walk ")?;
+            put_natural(alloc, out, u64::from(*choice))
+        }
     }
 }

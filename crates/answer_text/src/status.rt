@@ -3,7 +3,7 @@
 ghost use Rattle.std.specs.Prelude.{◌≡◌};
 ghost use Rattle.answer_text.specs.Statuses.{number_of};
 
-use super::Place;
+use super::{NoCause, Place};
 use quad_field::Formula;
 use surface_text::Point;
 
@@ -28,6 +28,8 @@ pub enum Status {
     WriteFault,
     /// Memory ran out.
     Memory,
+    /// The answer is no, for this cause; it stands in the one line that was written.
+    No(NoCause),
 }
 
 /// The number with which the program ends.
@@ -44,5 +46,6 @@ pub fn status_number(status: &Status) -> u8
         Status::ReadFault => 8,
         Status::WriteFault => 9,
         Status::Memory => 10,
+        Status::No(_) => 11,
     }
 }

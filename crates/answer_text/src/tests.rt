@@ -1,6 +1,6 @@
 //! The numbers of all statuses.
 
-use super::{Place, Status, status_number};
+use super::{NoCause, Place, Status, status_number};
 use quad_field::Formula;
 use std::test::Fail;
 use surface_text::Point;
@@ -17,7 +17,7 @@ fn each_status_has_its_number(rt: HostRuntime) -> Result<(), Fail> {
         formula: Formula::F12,
         place: Place::Flips { flips: 7, edge: 30 },
     };
-    let rows: [(Status, u8); 9] = [
+    let rows: [(Status, u8); 10] = [
         (Status::Done, 0),
         (Status::Words, 2),
         (Status::File { cause: 16, line: 3 }, 3),
@@ -27,6 +27,7 @@ fn each_status_has_its_number(rt: HostRuntime) -> Result<(), Fail> {
         (Status::ReadFault, 8),
         (Status::WriteFault, 9),
         (Status::Memory, 10),
+        (Status::No(NoCause::Wall { place: 4 }), 11),
     ];
     for (status, number) in &rows {
         assert_eq!(rt; status_number(status), *number);
