@@ -10,6 +10,8 @@ pub mod Owns
 pub mod Spots
 pub mod Turned
 pub mod WallPairs
+pub mod OneList
 pub mod CornerPoints
 pub mod CornerLists
 pub mod CornerPairs
+pub mod CallerLemmas

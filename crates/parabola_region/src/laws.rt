@@ -19,3 +19,8 @@ pub fn walls_apart()
 pub fn one_corner_point()
     ensures { (d : ℕ) (halves : List Half) (l k p q : Triple) → IsFieldNumber d → IsCornerPoint d halves l k p → IsCornerPoint d halves l k q → p ≡ q }
 {}
+
+/// A triangulation has one list of walls.
+pub fn one_list_of_walls()
+    ensures { (d : ℕ) (halves : List Half) (one other : List PlainWall) → IsFieldNumber d → IsTriangulation d halves → IsWallList d halves one → IsWallList d halves other → one ≡ other }
+{}
