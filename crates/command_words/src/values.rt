@@ -1,6 +1,6 @@
 //! What the matches of a line hold.
 
-ghost use Rattle.std.specs.Prelude.{◌≡◌, ℕ, List, ◌^◌, ◌<◌, IsSome, IsSomeAnd, IfSome, IfOk, MatchOption, map};
+ghost use Rattle.std.specs.Prelude.{◌≡◌, ℕ, List, ◌^◌, ◌<◌, ◌≤◌, length, IsSome, IsSomeAnd, IfSome, IfOk, MatchOption, map};
 ghost use Rattle.std.specs.List.{AllByRecursion};
 ghost use Rattle.clap.specs.Matches.{first_value, found_of};
 ghost use Rattle.plane.specs.Spelling.{natural_text};
@@ -41,7 +41,7 @@ fn number_in(word: &str) -> u32
 
 /// The plain values of the matches, as choices.
 pub(crate) fn choices_of(alloc: Global, matches: &ArgMatches<'_>) -> Result<Choices, AllocError>
-    requires { (plain : List ℕ) × AllByRecursion (λ n. n < 2 ^ 32) plain × HoldsPlain plain (found_of matches.now) }
+    requires { (plain : List ℕ) × (length plain ≤ 4096) × AllByRecursion (λ n. n < 2 ^ 32) plain × HoldsPlain plain (found_of matches.now) }
     ensures { IfOk result (λ choices. HoldsPlain choices (found_of matches.now)) }
 {
     let places = match matches.get_strs(VALUES) {

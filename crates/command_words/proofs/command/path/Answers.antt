@@ -11,7 +11,7 @@ number_of-flips-requires-clause-given c =
 pub choices_of-requires : goal.choices_of-requires
 choices_of-requires c =
     let (options, plain, line) = c.requires in
-    (plain, small_values 1000 plain (omega arith) line.below, (c.in_ok-matches.ensures options plain line).values)
+    (plain, line.most, small_values 1000 plain (omega arith) line.below, (c.in_ok-matches.ensures options plain line).values)
 
 pub returns : goal.returns
 returns c =
