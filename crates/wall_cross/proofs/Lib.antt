@@ -1,0 +1,5 @@
+pub mod Apexes
+pub mod Sides
+pub mod AtOnce
+pub mod Members
+pub mod Ahead

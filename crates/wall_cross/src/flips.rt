@@ -73,6 +73,7 @@ pub fn flip_wall(f: &Field, tri: &mut Tri, edges: &[u32]) -> Result<(), Wide>
     ensures fits { IsOk result ↔ DiagonalsFit tri.old.field tri.old.halves edges.now }
     ensures wide { IfErr result (λ wide. (wide.formula ≡ F12) × (tri.new ≡ tri.old)) }
 {
+    is_valid(f, tri);
     if diagonals_fit(f, tri, edges) {
         flip_all(f, tri, edges);
         Ok(())
