@@ -2,3 +2,8 @@
 //! What is behind a wall is strictly Delaunay at some half-plane point, and crossing back gives the first triangulation up to a translation.
 #![tactic(auto)]
 
+mod crossing;
+mod flips;
+pub mod laws;
+
+pub use crossing::{CrossFault, cross, cross_back, cross_in_place};
