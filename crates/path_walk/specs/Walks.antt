@@ -13,11 +13,15 @@ use Rattle.path_walk.specs.declared.fault.WalkFault.TheVariants.{NoSuchWall, Wid
 abbrev pub AtWall : ℕ → List Half → ℕ → (List ℕ → Type 0) → Type 0
 AtWall d halves j P = (walls : List PlainWall) × IsWallList d halves walls × (j < length walls) × P (edges_of walls j)
 
+-- `later` are the half-edges behind wall number j, whose new diagonals fit
+abbrev pub LiesBehindWall : ℕ → List Half → ℕ → List Half → Type 0
+LiesBehindWall d halves j later = AtWall d halves j (λ edges. DiagonalsFit d halves edges × AreAllFlipped d halves edges later)
+
 -- a walk stands at `later` after its first n choices: each wall that is chosen was crossed
 abbrev pub StandsAfter : ℕ → List Half → List ℕ → ℕ → List Half → Type 0
 StandsAfter d from choices zero later = later ≡ from
 StandsAfter d from choices (suc n) later =
-    (between : List Half) × StandsAfter d from choices n between × AtWall d between (slice_index choices n) (λ edges. AreAllFlipped d between edges later)
+    (between : List Half) × StandsAfter d from choices n between × LiesBehindWall d between (slice_index choices n) later
 
 -- `end` is the end of a walk: it stands there after all its choices
 abbrev pub IsEnd : ℕ → List Half → List ℕ → List Half → Type 0

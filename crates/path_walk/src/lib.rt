@@ -9,5 +9,3 @@ mod walk;
 pub use fault::WalkFault;
 pub use walk::walk;
 
-#[cfg(test)]
-mod tests;

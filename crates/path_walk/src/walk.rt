@@ -3,8 +3,8 @@
 ghost use Rattle.std.specs.Prelude.{◌≡◌, ◌^◌, ◌<◌, ℕ, ⊤, IfOk, OnOk, IfErr, length};
 ghost use Rattle.quad_field.specs.declared.formula.Formula.TheVariants.{F12};
 ghost use Rattle.parabola_region.specs.declared.fault.RegionFault.TheVariants.{Wide as WideRegion, Memory as NoMemory};
-ghost use Rattle.wall_cross.specs.Crossings.{AreAllFlipped, IsReached};
-ghost use Rattle.path_walk.specs.Walks.{AtWall, IsEnd, IsWalkFault, IsStepFault};
+ghost use Rattle.wall_cross.specs.Crossings.{IsReached};
+ghost use Rattle.path_walk.specs.Walks.{LiesBehindWall, IsEnd, IsWalkFault, IsStepFault};
 ghost use Rattle.path_walk.specs.declared.fault.WalkFault.TheVariants.{NoSuchWall, Wide, Memory};
 
 use super::WalkFault;
@@ -47,7 +47,7 @@ fn step(
 ) -> Result<(), WalkFault>
     requires { f.now ≡ at.old.field }
     ensures field { OnOk result (at.new.field ≡ at.old.field) }
-    ensures crossed { OnOk result (AtWall at.old.field at.old.halves choice (λ edges. AreAllFlipped at.old.field at.old.halves edges at.new.halves)) }
+    ensures crossed { OnOk result (LiesBehindWall at.old.field at.old.halves choice at.new.halves) }
     ensures fault { IfErr result (IsStepFault at.old.field at.old.halves choice place) }
 {
     let walls = match walls(alloc, f, at) {

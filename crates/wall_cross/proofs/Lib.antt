@@ -6,3 +6,4 @@ pub mod Ahead
 pub mod Values
 pub mod Behind
 pub mod Crossed
+pub mod CallerLemmas
