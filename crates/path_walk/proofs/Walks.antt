@@ -61,14 +61,16 @@ module _ (d : ℕ) (field : IsFieldNumber d) where
     pub stood_before : (n : ℕ) (at : List Half) → StandsAfter d from choices n at → (place : ℕ) → place < n
         → (between : List Half) × StandsAfter d from choices place between × ((later : List Half) × LiesBehindWall d between (slice_index choices place) later)
     stood_before zero at stands place before = absurd (omega (arith, before))
-    stood_before (suc n) at (between, stands, crosses) place before = go (cases_order place n)
+    stood_before (suc n) at (between, stands, crosses) place before = go (cases_order place n) (stood_before n between stands place)
       where
-        go : (place ≡ n) ⊎ ((place < n) ⊎ (n < place)) → (between : List Half) × StandsAfter d from choices place between × ((later : List Half) × LiesBehindWall d between (slice_index choices place) later)
-        go (inl same) =
+        go : (place ≡ n) ⊎ ((place < n) ⊎ (n < place))
+            → (place < n → (between : List Half) × StandsAfter d from choices place between × ((later : List Half) × LiesBehindWall d between (slice_index choices place) later))
+            → (between : List Half) × StandsAfter d from choices place between × ((later : List Half) × LiesBehindWall d between (slice_index choices place) later)
+        go (inl same) earlier =
             subst (λ (m : ℕ). (between : List Half) × StandsAfter d from choices m between × ((later : List Half) × LiesBehindWall d between (slice_index choices m) later)) (sym same)
             (between, stands, (at, crosses))
-        go (inr (inl less)) = stood_before n between stands place less
-        go (inr (inr more)) = absurd (omega (arith, before, more))
+        go (inr (inl less)) earlier = earlier less
+        go (inr (inr more)) earlier = absurd (omega (arith, before, more))
 
     -- what stops a walk before the choice at a place: no wall, or a crossing with a wide diagonal
     abbrev Stops : ℕ → Type 0
@@ -82,15 +84,15 @@ module _ (d : ℕ) (field : IsFieldNumber d) where
         not_stopped at (stands_valid place at here) (slice_index choices place) later (subst (λ (halves : List Half). LiesBehindWall d halves (slice_index choices place) later) same crosses) stopped
 
     pub no_end_without_wall : (place : ℕ) (end : List Half) → IsWithoutWall d from choices place → ¬ (IsEnd d from choices end)
-    no_end_without_wall place end (under, at, stands, none) ends = not_after (length choices) end ends place under at stands (inl none)
+    no_end_without_wall place end (under, (at, stands, none)) ends = not_after (length choices) end ends place under at stands (inl none)
 
     pub no_end_wide : (place : ℕ) (end : List Half) → IsWideOnWalk d from choices F12 place → ¬ (IsEnd d from choices end)
-    no_end_wide place end (under, at, stands, wide) ends = not_after (length choices) end ends place under at stands (inr wide)
+    no_end_wide place end (under, (at, stands, wide)) ends = not_after (length choices) end ends place under at stands (inr wide)
 
     -- the place where a walk stops
     stop_at : (place : ℕ) → Stops place → (at : List Half) × StandsAfter d from choices place at × (HasNoWall d at (slice_index choices place) ⊎ IsWideChoice F12 d at (slice_index choices place))
-    stop_at place (inl (under, at, stands, none)) = (at, stands, inl none)
-    stop_at place (inr (under, at, stands, wide)) = (at, stands, inr wide)
+    stop_at place (inl (under, (at, stands, none))) = (at, stands, inl none)
+    stop_at place (inr (under, (at, stands, wide))) = (at, stands, inr wide)
 
     pub one_stop : (place other : ℕ) → IsWithoutWall d from choices place ⊎ IsWideOnWalk d from choices F12 place → IsWithoutWall d from choices other ⊎ IsWideOnWalk d from choices F12 other → place ≡ other
     one_stop place other a b = elim (cases_order place other) [
@@ -100,17 +102,24 @@ module _ (d : ℕ) (field : IsFieldNumber d) where
     ]
 
     pub wall_or_wide : (place : ℕ) → IsWithoutWall d from choices place → ¬ (IsWideOnWalk d from choices F12 place)
-    wall_or_wide place (under, at, stands, none) (below, to, stood, (walls, list, has, wide)) =
+    wall_or_wide place (under, (at, stands, none)) (below, (to, stood, (walls, list, has, wide))) =
         let same : to ≡ at = stands_once place to at stood stands in
         let there = subst (λ (halves : List Half). AtWall d halves (slice_index choices place) (λ edges. ¬ (DiagonalsFit d halves edges))) same (walls, list, has, wide) in
         wall_exists at (stands_valid place at stands) (slice_index choices place) (λ edges. ¬ (DiagonalsFit d at edges)) there none
 
-    -- the end is reached
-    pub leads : (n : ℕ) (at : List Half) → StandsAfter d from choices n at → LeadsIn d from n at
-    leads zero at e = e
-    leads (suc n) at (between, stands, (walls, list, under, (fits, flips))) =
-        let j = slice_index choices n in
-        (between, leads n between stands, (form_of walls j, edges_of walls j, crossing_of_wall d between at (form_of walls j) (edges_of walls j) (list.each j under) flips))
+-- the end is reached
+leads : (d : ℕ) (from : List Half) (choices : List ℕ) (n : ℕ) (at : List Half) → StandsAfter d from choices n at → LeadsIn d from n at
+leads d from choices zero at e = e
+leads d from choices (suc n) at (between, stands, (walls, list, under, (fits, flips))) =
+    let j = slice_index choices n in
+    (between, leads d from choices n between stands, (form_of walls j, edges_of walls j, crossing_of_wall d between at (form_of walls j) (edges_of walls j) (list.each j under) flips))
 
-    pub end_reached : (end : List Half) → IsEnd d from choices end → IsReached d from end
-    end_reached end ends = (length choices, leads (length choices) end ends)
+pub end_reached : (d : ℕ) (from : List Half) (choices : List ℕ) (n : ℕ) (end : List Half) → StandsAfter d from choices n end → IsReached d from end
+end_reached d from choices n end stands = (n, leads d from choices n end stands)
+
+-- a walk goes on through the wall that is chosen next
+pub stands_more : (d e : ℕ) (from : List Half) (choices : List ℕ) (n : ℕ) (between later : List Half) → e ≡ d → StandsAfter d from choices n between
+    → LiesBehindWall e between (slice_index choices n) later → StandsAfter d from choices (n + 1) later
+stands_more d e from choices n between later same stands behind =
+    let up : suc n ≡ n + 1 = omega arith in
+    subst (λ (m : ℕ). StandsAfter d from choices m later) up (between, stands, subst (λ (f : ℕ). LiesBehindWall f between (slice_index choices n) later) same behind)

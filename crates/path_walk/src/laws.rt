@@ -30,5 +30,5 @@ pub fn one_stop()
 
 /// The end of a walk is reached by finitely many crossings.
 pub fn ends_are_reached()
-    ensures { (d : ℕ) (from end : List Half) (choices : List ℕ) → IsFieldNumber d → IsTriangulation d from → IsEnd d from choices end → IsReached d from end }
+    ensures { (d : ℕ) (from end : List Half) (choices : List ℕ) → IsEnd d from choices end → IsReached d from end }
 {}

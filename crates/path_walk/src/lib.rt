@@ -4,8 +4,8 @@
 
 mod fault;
 pub mod laws;
-mod walk;
+mod steps;
 
 pub use fault::WalkFault;
-pub use walk::walk;
+pub use steps::walk;
 
