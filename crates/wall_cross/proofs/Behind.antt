@@ -89,7 +89,7 @@ module _ (d : ℕ) (field : IsFieldNumber d) (halves : List Half) (valid : IsTri
   listed_member : (i : ℕ) → i < length edges → is_among halves edges (length edges) (slice_index edges i) ≡ true
   listed_member i less = among_from halves edges (length edges) (edge i) i less (inl (λ t. edge i))
 
-  same_twin : (i : ℕ) → i < length edges → twin_at later (slice_index edges i) ≡ twin_at halves (slice_index edges i)
+  pub same_twin : (i : ℕ) → i < length edges → twin_at later (slice_index edges i) ≡ twin_at halves (slice_index edges i)
   same_twin i less = member_twin d halves valid (is_among halves edges (length edges)) spread later flips (edge i) (listed_inside d field halves valid form edges wall i less) (listed_member i less)
 
   -- the edges of the wall still are edges

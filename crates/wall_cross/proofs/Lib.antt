@@ -5,4 +5,5 @@ pub mod Members
 pub mod Ahead
 pub mod Values
 pub mod Behind
+pub mod Back
 pub mod Crossed
