@@ -7,3 +7,4 @@ pub mod Values
 pub mod Behind
 pub mod Back
 pub mod Crossed
+pub mod Orders
