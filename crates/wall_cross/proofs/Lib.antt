@@ -5,5 +5,7 @@ pub mod Members
 pub mod Ahead
 pub mod Values
 pub mod Behind
+pub mod Back
 pub mod Crossed
 pub mod CallerLemmas
+pub mod Orders
