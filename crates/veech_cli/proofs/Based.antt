@@ -1,6 +1,7 @@
 -- What the flipping of a triangulation says of the input that it was made from.
 use Rattle.std.proofs.Common.{◌≡◌, ℕ, inl, inr, refl, List, ap, sym, ◌∙◌, subst, Err}
 use Rattle.std.specs.Prelude.{Ok}
+use Rattle.surface_text.specs.Spelling.{Content}
 use Rattle.surface_text.specs.Limits.{IsBasePoint}
 use Rattle.surface_text.specs.declared.file.Point.{Point}
 use Rattle.tri_core.specs.declared.half.Half.{Half}
@@ -10,16 +11,18 @@ use Rattle.delaunay_flip.specs.declared.base.BaseFault.{BaseFault}
 use Rattle.delaunay_flip.specs.Bases.{Ending, EndsListed}
 use Rattle.delaunay_flip.specs.Answers.{IsRight}
 use Rattle.quad_field.specs.declared.formula.Formula.{Formula}
-use Rattle.answer_text.specs.declared.status.Status.TheVariants.{Done, NotStrict, FlipsEnded, TooWide}
-use Rattle.answer_text.specs.declared.place.Place.TheVariants.{Flips, Base as AtBase}
+use Rattle.answer_text.specs.declared.status.Status.TheVariants.{Done, NotStrict, FlipsEnded, TooWide, No}
+use Rattle.answer_text.specs.declared.no_cause.NoCause.TheVariants.{Wall}
+use Rattle.answer_text.specs.declared.place.Place.TheVariants.{Flips, Base as AtBase, Walk}
 use Rattle.answer_text.specs.declared.status.Status.{Status}
 use Rattle.answer_text.specs.Lines.{status_line}
 use Rattle.answer_text.specs.BaseTexts.{half_edges_text}
+use Rattle.command_words.specs.declared.command.Command.{Command}
 use Rattle.command_words.specs.declared.command.Command.TheVariants as commands
 use Rattle.veech_cli.specs.Endings.{or_standard, points_of, status_of_ending, text_of_ending}
-use Rattle.veech_cli.specs.Owed.{Owes, IsRegionAnswer, AnswersRegion}
+use Rattle.veech_cli.specs.Owed.{Owes, IsRegionAnswer, IsPathAnswer, AnswersAt, AnswersFromBase, Answers}
 use Rattle.veech_cli.specs.Refusals.{status_of_base}
-use Rattle.veech_cli.specs.Surfaces.{IsTriangulatedFrom, IsRefusal, IsRefusalOf, RefusesRegion}
+use Rattle.veech_cli.specs.Surfaces.{IsTriangulatedFrom, IsRefusal, IsRefusalOf, RefusesRegion, RefusesWalk}
 use Rattle.veech_cli.proofs.Listed.{listed_point}
 use Rattle.veech_cli.proofs.Inputs.{points_within}
 use Rattle.veech_cli.proofs.Settling.{refuses_memory}
@@ -35,6 +38,12 @@ wide_refusal formula n h = record { not_done = λ e. cc; not_words = λ e. cc; n
 
 wide_base_refusal : (formula : Formula) → IsRefusal (TooWide formula AtBase)
 wide_base_refusal formula = record { not_done = λ e. cc; not_words = λ e. cc; not_write_fault = λ e. cc; point = tt }
+
+no_wall_refusal : (place : ℕ) → IsRefusal (No (Wall place))
+no_wall_refusal place = record { not_done = λ e. cc; not_words = λ e. cc; not_write_fault = λ e. cc; point = tt }
+
+wide_walk_refusal : (formula : Formula) (place : ℕ) → IsRefusal (TooWide formula (Walk place))
+wide_walk_refusal formula place = record { not_done = λ e. cc; not_words = λ e. cc; not_write_fault = λ e. cc; point = tt }
 
 module _ (input : List ℕ) (flips : ℕ) (bases : List Point) (tri : Triangulation) (made : IsTriangulatedFrom input bases tri) where
   -- how the flipping of the triangulation ends
@@ -96,38 +105,46 @@ module _ (input : List ℕ) (flips : ℕ) (bases : List Point) (tri : Triangulat
   base_field base (inl (at, Ending.wide formula n h, ends, says)) = absurd says
   base_field base (inr memory) = absurd memory
 
-  -- what is answered for the region of the base is owed to the input
-  pub region_owed : (base : Base) → IsRight tri Ends (Ok base) → (status : Status) (text : List ℕ) → IsRegionAnswer base.tri.field base.tri.halves status text → Owes (commands.Region flips) input status text
-  region_owed base right status text answer =
-      inr (
-        made.0,
-        tri.halves,
-        made.1,
-        made.4,
-        (
-          base.point,
-          Ending.strict base.tri.halves base.flips,
-          ends_for base.point (Ending.strict base.tri.halves base.flips) (ended base right),
-          subst (λ d. IsRegionAnswer d base.tri.halves status text) (base_field base right ∙ made.3) answer,
-        ),
-      )
+  -- a command that wants a base, and what it answers for one
+  module _ (command : Command) (P : ℕ → List Half → Status → List ℕ → Type 0)
+      (answers : (file : Content) (status : Status) (text : List ℕ) → AnswersFromBase flips (P file.field) file tri.halves status text → Answers command file tri.halves status text) where
+    -- what is answered for an ending is owed to the input
+    owed_then : (at : Point) (ending : Ending) → Ends at ending → (status : Status) (text : List ℕ) → AnswersAt (P made.0.field) at ending status text → Owes command input status text
+    owed_then at ending ends status text answer = inr (made.0, tri.halves, made.1, made.4, answers made.0 status text (at, ending, ends_for at ending ends, answer))
 
+    -- and so is what is answered for the base
+    pub owed_from : (base : Base) → IsRight tri Ends (Ok base) → (status : Status) (text : List ℕ) → P base.tri.field base.tri.halves status text → Owes command input status text
+    owed_from base right status text answer =
+        owed_then base.point (Ending.strict base.tri.halves base.flips) (ended base right) status text
+        (subst (λ d. P d base.tri.halves status text) (base_field base right ∙ made.3) answer)
+
+    -- and so is a fault of the base
+    pub refused_from : (fault : BaseFault) → IsRight tri Ends (Err fault) → IsRefusalOf command input (status_of_base fault)
+    refused_from fault (inl (at, Ending.strict later n, ends, says)) = absurd says
+    refused_from fault (inl (at, Ending.not_strict h, ends, says)) =
+        subst (λ f. IsRefusalOf command input (status_of_base f)) (sym says) (not_strict_refusal h, inl (owed_then at (Ending.not_strict h) ends _ _ (refl, refl)))
+    refused_from fault (inl (at, Ending.flips_ended, ends, says)) =
+        subst (λ f. IsRefusalOf command input (status_of_base f)) (sym says) (ended_refusal at (point_inside at Ending.flips_ended ends), inl (owed_then at Ending.flips_ended ends _ _ (refl, refl)))
+    refused_from fault (inl (at, Ending.wide formula n h, ends, says)) =
+        subst (λ f. IsRefusalOf command input (status_of_base f)) (sym says) (wide_refusal formula n h, inl (owed_then at (Ending.wide formula n h) ends _ _ (refl, refl)))
+    refused_from fault (inr memory) = refuses_memory command input (status_of_base fault) (ap status_of_base memory)
+
+  -- `region`
   pub region_refused : (base : Base) → IsRight tri Ends (Ok base) → (status : Status) → RefusesRegion base.tri.field base.tri.halves status → IsRefusalOf (commands.Region flips) input status
-  region_refused base right status (inl (formula, wide, is)) =
-      (subst IsRefusal (sym is) (wide_base_refusal formula), inl (region_owed base right status (status_line status) (inr (formula, wide, is, ap status_line is))))
+  region_refused base right status (inl (formula, wide, is)) = (
+    subst IsRefusal (sym is) (wide_base_refusal formula),
+    inl (owed_from (commands.Region flips) IsRegionAnswer (λ file status text answer. answer) base right status (status_line status) (inr (formula, wide, is, ap status_line is))),
+  )
   region_refused base right status (inr is) = refuses_memory (commands.Region flips) input status is
 
-  -- an ending that isn't strict
-  other : (at : Point) (ending : Ending) → Ends at ending → {status : Status} {text : List ℕ} → AnswersRegion made.0.field at ending status text → Owes (commands.Region flips) input status text
-  other at ending ends answer = inr (made.0, tri.halves, made.1, made.4, (at, ending, ends_for at ending ends, answer))
-
-  -- and so is a fault of the base
-  pub region_base_refused : (fault : BaseFault) → IsRight tri Ends (Err fault) → IsRefusalOf (commands.Region flips) input (status_of_base fault)
-  region_base_refused fault (inl (at, Ending.strict later n, ends, says)) = absurd says
-  region_base_refused fault (inl (at, Ending.not_strict h, ends, says)) =
-      subst (λ f. IsRefusalOf (commands.Region flips) input (status_of_base f)) (sym says) (not_strict_refusal h, inl (other at (Ending.not_strict h) ends (refl, refl)))
-  region_base_refused fault (inl (at, Ending.flips_ended, ends, says)) =
-      subst (λ f. IsRefusalOf (commands.Region flips) input (status_of_base f)) (sym says) (ended_refusal at (point_inside at Ending.flips_ended ends), inl (other at Ending.flips_ended ends (refl, refl)))
-  region_base_refused fault (inl (at, Ending.wide formula n h, ends, says)) =
-      subst (λ f. IsRefusalOf (commands.Region flips) input (status_of_base f)) (sym says) (wide_refusal formula n h, inl (other at (Ending.wide formula n h) ends (refl, refl)))
-  region_base_refused fault (inr memory) = refuses_memory (commands.Region flips) input (status_of_base fault) (ap status_of_base memory)
+  -- `path`
+  pub path_refused : (choices : List ℕ) (base : Base) → IsRight tri Ends (Ok base) → (status : Status) → RefusesWalk base.tri.field base.tri.halves choices status → IsRefusalOf (commands.Path flips choices) input status
+  path_refused choices base right status (inl (place, none, is)) = (
+    subst IsRefusal (sym is) (no_wall_refusal place),
+    inl (owed_from (commands.Path flips choices) (λ d. IsPathAnswer d choices) (λ file status text answer. answer) base right status (status_line status) (inr (inl (place, none, is, ap status_line is)))),
+  )
+  path_refused choices base right status (inr (inl (formula, place, wide, is))) = (
+    subst IsRefusal (sym is) (wide_walk_refusal formula place),
+    inl (owed_from (commands.Path flips choices) (λ d. IsPathAnswer d choices) (λ file status text answer. answer) base right status (status_line status) (inr (inr (formula, place, wide, is, ap status_line is)))),
+  )
+  path_refused choices base right status (inr (inr is)) = refuses_memory (commands.Path flips choices) input status is

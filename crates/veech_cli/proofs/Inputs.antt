@@ -14,16 +14,24 @@ use Rattle.gluing.proofs.CallerLemmas as gluing
 use Rattle.ear_cut.specs.Cuttings.{IsEarCutting}
 use Rattle.ear_cut.proofs.CallerLemmas.{one_cutting, triangulation}
 use Rattle.delaunay_flip.specs.Points.{standard_points}
-use Rattle.delaunay_flip.specs.Bases.{Ending}
-use Rattle.delaunay_flip.proofs.CallerLemmas.{within}
+use Rattle.delaunay_flip.specs.Bases.{Ending, EndsListed}
+use Rattle.delaunay_flip.proofs.CallerLemmas.{within, one_listed}
+use Rattle.quad_field.specs.FieldNumber.{IsFieldNumber}
+use Rattle.quad_field.specs.declared.formula.Formula.{Formula}
+use Rattle.quad_field.specs.declared.formula.Formula.TheVariants.{F1, F2, F3, F4, F5, F6, F7, F8, F9, F10, F11, F12, F13}
+use Rattle.tri_core.specs.Triangulation.{IsTriangulation}
+use Rattle.path_walk.specs.Walks.{IsWithoutWall, IsWideOnWalk}
+use Rattle.path_walk.proofs.CallerLemmas.{no_end_without_wall, no_end_wide, one_stop, wall_or_wide}
 use Rattle.answer_text.specs.declared.status.Status.{Status}
-use Rattle.answer_text.specs.declared.status.Status.TheVariants.{Done, File}
+use Rattle.answer_text.specs.declared.status.Status.TheVariants.{Done, File, TooWide, No}
+use Rattle.answer_text.specs.declared.place.Place.TheVariants as places
+use Rattle.answer_text.specs.declared.no_cause.NoCause.TheVariants.{Wall}
 use Rattle.command_words.specs.declared.command.Command.{Command}
-use Rattle.command_words.specs.declared.command.Command.TheVariants.{Check, Base, Region}
+use Rattle.command_words.specs.declared.command.Command.TheVariants.{Check, Base, Region, Path}
 use Rattle.veech_cli.specs.SurfaceFiles.{IsTextOf, IsAccepted, IsTriangulationOf, IsRefused, too_long, text_refused, not_glued}
 use Rattle.veech_cli.specs.Endings.{or_standard, points_of, status_of_ending}
-use Rattle.veech_cli.specs.Owed.{Answers, AnswersRegion, Owes, IsOptional}
-use Rattle.veech_cli.proofs.Listed.{one_listed}
+use Rattle.veech_cli.specs.Owed.{Answers, AnswersAt, AnswersFromBase, IsRegionAnswer, IsPathAnswer, Owes, IsOptional}
+use Rattle.veech_cli.proofs.Listed.{listed_valid}
 
 -- two files with one text
 one_text : (input : List ℕ) (file other : Content) → IsTextOf input file → IsTextOf input other → file ≡ other
@@ -74,29 +82,117 @@ pub points_within : (bases : List Point) → AllByRecursion IsBasePoint bases �
 points_within [] all = standard_within
 points_within (at ∷ bases) all = all
 
--- for one ending `region` answers one status, but for a wide formula at the base
-region_once : (d : ℕ) (at : Point) (ending : Ending) (status other : Status) (text line : List ℕ) → AnswersRegion d at ending status text → AnswersRegion d at ending other line
-    → (status ≡ other) ⊎ (IsOptional status ⊎ IsOptional other)
-region_once d at (Ending.strict later n) status other text line (inl a) (inl b) = inl (a.4 ∙ sym b.4)
-region_once d at (Ending.strict later n) status other text line (inr a) b = inr (inl (a.0, a.2))
-region_once d at (Ending.strict later n) status other text line (inl a) (inr b) = inr (inr (b.0, b.2))
-region_once d at (Ending.not_strict h) status other text line a b = inl (a.0 ∙ sym b.0)
-region_once d at Ending.flips_ended status other text line a b = inl (a.0 ∙ sym b.0)
-region_once d at (Ending.wide formula n h) status other text line a b = inl (a.0 ∙ sym b.0)
+-- two statuses are one, but for a wide formula that an answer may do without
+abbrev AreAlike : Status → Status → Type 0
+AreAlike status other = (status ≡ other) ⊎ (IsOptional status ⊎ IsOptional other)
+
+-- for one triangulation this answers one status
+abbrev IsOnce : (List Half → Status → List ℕ → Type 0) → List Half → Type 0
+IsOnce P halves = (status other : Status) (text line : List ℕ) → P halves status text → P halves other line → AreAlike status other
+
+-- `region` does
+region_once : (d : ℕ) (halves : List Half) → IsOnce (IsRegionAnswer d) halves
+region_once d halves status other text line (inl a) (inl b) = inl (a.4 ∙ sym b.4)
+region_once d halves status other text line (inr a) b = inr (inl (inl (a.0, a.2)))
+region_once d halves status other text line (inl a) (inr b) = inr (inr (inl (b.0, b.2)))
+
+-- a formula is that of a new diagonal, or another
+diagonal_or_not : (formula : Formula) → (formula ≡ F12) ⊎ ¬ (formula ≡ F12)
+diagonal_or_not F1 = inr (λ e. cc)
+diagonal_or_not F2 = inr (λ e. cc)
+diagonal_or_not F3 = inr (λ e. cc)
+diagonal_or_not F4 = inr (λ e. cc)
+diagonal_or_not F5 = inr (λ e. cc)
+diagonal_or_not F6 = inr (λ e. cc)
+diagonal_or_not F7 = inr (λ e. cc)
+diagonal_or_not F8 = inr (λ e. cc)
+diagonal_or_not F9 = inr (λ e. cc)
+diagonal_or_not F10 = inr (λ e. cc)
+diagonal_or_not F11 = inr (λ e. cc)
+diagonal_or_not F12 = inl refl
+diagonal_or_not F13 = inr (λ e. cc)
+
+-- and so does `path`: a walk has an end, or one place at which it stops
+module _ (d : ℕ) (field : IsFieldNumber d) (choices : List ℕ) (halves : List Half) (valid : IsTriangulation d halves) where
+  -- a wide formula on a walk is one that an answer may do without, or the new diagonal is wide there
+  optional_or_stop : (status : Status) (formula : Formula) (place : ℕ) → IsWideOnWalk d halves choices formula place → status ≡ TooWide formula (places.Walk place)
+      → IsOptional status ⊎ (IsWideOnWalk d halves choices F12 place × (status ≡ TooWide F12 (places.Walk place)))
+  optional_or_stop status formula place wide is = elim (diagonal_or_not formula) [
+    | inl e ↦ inr (subst (λ (f : Formula). IsWideOnWalk d halves choices f place) e wide, is ∙ ap (λ (f : Formula). TooWide f (places.Walk place)) e)
+    | inr ne ↦ inl (inr (formula, place, ne, is))
+  ]
+
+  path_once : IsOnce (IsPathAnswer d choices) halves
+  path_once status other text line (inl a) (inl b) = inl (a.4 ∙ sym b.4)
+  path_once status other text line (inl a) (inr (inl b)) = absurd (no_end_without_wall d field halves valid choices b.0 a.0 b.1 a.2)
+  path_once status other text line (inr (inl a)) (inl b) = absurd (no_end_without_wall d field halves valid choices a.0 b.0 a.1 b.2)
+  path_once status other text line (inl a) (inr (inr b)) = elim (optional_or_stop other b.0 b.1 b.2 b.3) [
+    | inl optional ↦ inr (inr optional)
+    | inr stop ↦ absurd (no_end_wide d field halves valid choices b.1 a.0 stop.0 a.2)
+  ]
+  path_once status other text line (inr (inr a)) (inl b) = elim (optional_or_stop status a.0 a.1 a.2 a.3) [
+    | inl optional ↦ inr (inl optional)
+    | inr stop ↦ absurd (no_end_wide d field halves valid choices a.1 b.0 stop.0 b.2)
+  ]
+  path_once status other text line (inr (inl a)) (inr (inl b)) =
+      inl (a.2 ∙ ap (λ (place : ℕ). No (Wall place)) (one_stop d field halves valid choices a.0 b.0 (inl a.1) (inl b.1)) ∙ sym b.2)
+  path_once status other text line (inr (inl a)) (inr (inr b)) = elim (optional_or_stop other b.0 b.1 b.2 b.3) [
+    | inl optional ↦ inr (inr optional)
+    | inr stop ↦
+        absurd (wall_or_wide d field halves valid choices b.1
+        (subst (λ (place : ℕ). IsWithoutWall d halves choices place) (one_stop d field halves valid choices a.0 b.1 (inl a.1) (inr stop.0)) a.1) stop.0)
+  ]
+  path_once status other text line (inr (inr a)) (inr (inl b)) = elim (optional_or_stop status a.0 a.1 a.2 a.3) [
+    | inl optional ↦ inr (inl optional)
+    | inr stop ↦
+        absurd (wall_or_wide d field halves valid choices a.1
+        (subst (λ (place : ℕ). IsWithoutWall d halves choices place) (one_stop d field halves valid choices b.0 a.1 (inl b.1) (inr stop.0)) b.1) stop.0)
+  ]
+  path_once status other text line (inr (inr a)) (inr (inr b)) = elim (optional_or_stop status a.0 a.1 a.2 a.3) [
+    | inl optional ↦ inr (inl optional)
+    | inr stop ↦ elim (optional_or_stop other b.0 b.1 b.2 b.3) [
+      | inl optional ↦ inr (inr optional)
+      | inr also ↦ inl (stop.1 ∙ ap (λ (place : ℕ). TooWide F12 (places.Walk place)) (one_stop d field halves valid choices a.1 b.1 (inr stop.0) (inr also.0)) ∙ sym also.1)
+    ]
+  ]
+
+-- for one ending a command that wants a base answers one status, where it does for the base
+ending_once : (P : List Half → Status → List ℕ → Type 0) (at : Point) (ending : Ending) → ((later : List Half) (n : ℕ) → ending ≡ Ending.strict later n → IsOnce P later)
+    → (status other : Status) (text line : List ℕ) → AnswersAt P at ending status text → AnswersAt P at ending other line → AreAlike status other
+ending_once P at (Ending.strict later n) once status other text line a b = once later n refl status other text line a b
+ending_once P at (Ending.not_strict h) once status other text line a b = inl (a.0 ∙ sym b.0)
+ending_once P at Ending.flips_ended once status other text line a b = inl (a.0 ∙ sym b.0)
+ending_once P at (Ending.wide formula n h) once status other text line a b = inl (a.0 ∙ sym b.0)
+
+module _ (input : List ℕ) (file : Content) (halves : List Half) (accepted : IsAccepted input file) (t : IsTriangulationOf file halves) (flips : ℕ) where
+  valid_file : IsTriangulation file.field halves
+  valid_file = triangulation (gluing_of file) accepted.glued halves t
+
+  inside : AllByRecursion IsBasePoint (points_of file)
+  inside = points_within file.bases accepted.text_of.limits.bases
+
+  base_once : (P : List Half → Status → List ℕ → Type 0) → ((later : List Half) → IsTriangulation file.field later → IsOnce P later)
+      → (status other : Status) (text line : List ℕ) → AnswersFromBase flips P file halves status text → AnswersFromBase flips P file halves other line → AreAlike status other
+  base_once P once status other text line a b =
+      let same = one_listed file.field accepted.text_of.limits.field halves valid_file (points_of file) inside flips a.0 b.0 a.1 b.1 a.2 b.2 in
+      ending_once P b.0 b.1
+      (λ later n is. once later (listed_valid file.field accepted.text_of.limits.field halves valid_file (points_of file) inside flips b.0 later n
+      (subst (λ (e : Ending). EndsListed file.field halves (points_of file) flips b.0 e) is b.2)))
+      status other text line
+      (subst (λ (e : Ending). AnswersAt P b.0 e status text) same.1 (subst (λ (p : Point). AnswersAt P p a.1 status text) same.0 a.3)) b.3
 
 -- for one triangulation a command answers one status
 one_for : (command : Command) (input : List ℕ) (file : Content) (halves : List Half) → IsAccepted input file → IsTriangulationOf file halves
-    → (status other : Status) (text line : List ℕ) → Answers command file halves status text → Answers command file halves other line → (status ≡ other) ⊎ (IsOptional status ⊎ IsOptional other)
+    → (status other : Status) (text line : List ℕ) → Answers command file halves status text → Answers command file halves other line → AreAlike status other
 one_for Check input file halves accepted t status other text line a b = inl (a.4 ∙ sym b.4)
 one_for (Base flips) input file halves accepted t status other text line a b =
     let valid = triangulation (gluing_of file) accepted.glued halves t in
-    let same = one_listed file.field accepted.text_of.limits.field halves valid flips (points_of file) (points_within file.bases accepted.text_of.limits.bases) a.0 b.0 a.1 b.1 a.2 b.2 in
+    let same = one_listed file.field accepted.text_of.limits.field halves valid (points_of file) (points_within file.bases accepted.text_of.limits.bases) flips a.0 b.0 a.1 b.1 a.2 b.2 in
     inl (a.3 ∙ (λ i. status_of_ending (same.0 i) (same.1 i)) ∙ sym b.3)
 one_for (Region flips) input file halves accepted t status other text line a b =
-    let valid = triangulation (gluing_of file) accepted.glued halves t in
-    let same = one_listed file.field accepted.text_of.limits.field halves valid flips (points_of file) (points_within file.bases accepted.text_of.limits.bases) a.0 b.0 a.1 b.1 a.2 b.2 in
-    region_once file.field b.0 b.1 status other text line
-    (subst (λ (e : Ending). AnswersRegion file.field b.0 e status text) same.1 (subst (λ (p : Point). AnswersRegion file.field p a.1 status text) same.0 a.3)) b.3
+    base_once input file halves accepted t flips (IsRegionAnswer file.field) (λ later valid. region_once file.field later) status other text line a b
+one_for (Path flips choices) input file halves accepted t status other text line a b =
+    base_once input file halves accepted t flips (IsPathAnswer file.field choices) (λ later valid. path_once file.field accepted.text_of.limits.field choices later valid) status other text line a b
 
 pub one_answer : (command : Command) (input : List ℕ) (status other : Status) (text line : List ℕ) → Owes command input status text → Owes command input other line
     → (status ≡ other) ⊎ (IsOptional status ⊎ IsOptional other)

@@ -1,16 +1,21 @@
 -- What a command owes an input: a status, and the text that is written with it. Every other answer of a run is a failure of an end,
 -- want of memory, or a refusal of the words.
-use Rattle.std.specs.Prelude.{◌≡◌, ℕ, ◌⊎◌, List}
+use Rattle.std.specs.Prelude.{◌≡◌, ◌↔◌, ℕ, ◌⊎◌, Bool, IsTrue, List, length}
 use Rattle.surface_text.specs.Spelling.{Content}
 use Rattle.surface_text.specs.declared.file.Point.{Point}
 use Rattle.tri_core.specs.declared.half.Half.{Half}
 use Rattle.cone_points.specs.Angles.{AreTurns, IsGenus}
 use Rattle.delaunay_flip.specs.Bases.{Ending, EndsListed}
 use Rattle.answer_text.specs.declared.status.Status.{Status}
-use Rattle.answer_text.specs.declared.status.Status.TheVariants.{Done, File, TooWide}
+use Rattle.answer_text.specs.declared.status.Status.TheVariants.{Done, File, TooWide, No}
+use Rattle.answer_text.specs.declared.no_cause.NoCause.TheVariants.{Wall}
 use Rattle.answer_text.specs.declared.place.Place.TheVariants as places
 use Rattle.answer_text.specs.RegionTexts.{walls_and_corners_text}
+use Rattle.answer_text.specs.WalkTexts.{walk_text}
 use Rattle.quad_field.specs.declared.formula.Formula.{Formula}
+use Rattle.quad_field.specs.declared.formula.Formula.TheVariants.{F12}
+use Rattle.tri_core.specs.Images.{AreTranslationEqual}
+use Rattle.path_walk.specs.Walks.{IsEnd, IsWithoutWall, IsWideOnWalk}
 use Rattle.parabola_region.specs.WallLists.{PlainWall, IsWallList}
 use Rattle.parabola_region.specs.Corners.{IsCornerList}
 use Rattle.parabola_region.specs.declared.corner.Corner.{Corner}
@@ -18,7 +23,7 @@ use Rattle.parabola_region.specs.Instances.{IsWideInstance}
 use Rattle.answer_text.specs.Lines.{status_line}
 use Rattle.answer_text.specs.CheckTexts.{counts_text}
 use Rattle.command_words.specs.declared.command.Command.{Command}
-use Rattle.command_words.specs.declared.command.Command.TheVariants.{Check, Base, Region}
+use Rattle.command_words.specs.declared.command.Command.TheVariants.{Check, Base, Region, Path}
 use Rattle.veech_cli.specs.SurfaceFiles.{IsAccepted, IsTriangulationOf, IsRefused}
 use Rattle.veech_cli.specs.Endings.{points_of, status_of_ending, text_of_ending}
 
@@ -29,10 +34,25 @@ IsRegionAnswer d halves status text =
     × (status ≡ Done) × (text ≡ walls_and_corners_text walls corners))
     ⊎ ((formula : Formula) × IsWideInstance d halves formula × (status ≡ TooWide formula places.Base) × (text ≡ status_line (TooWide formula places.Base)))
 
--- and for an ending: that of a strict one, and else what `base` answers
-abbrev pub AnswersRegion : ℕ → Point → Ending → Status → List ℕ → Type 0
-AnswersRegion d at (Ending.strict later n) status text = IsRegionAnswer d later status text
-AnswersRegion d at other status text = (status ≡ status_of_ending at other) × (text ≡ text_of_ending at other)
+-- what `path` answers for a base: Done, with the length of the walk and whether its end is translation-equal to the base; that there is no
+-- wall for a choice; or that a formula is wide on the walk
+abbrev pub IsPathAnswer : ℕ → List ℕ → List Half → Status → List ℕ → Type 0
+IsPathAnswer d choices halves status text =
+    ((end : List Half) × (same : Bool) × IsEnd d halves choices end × (IsTrue same ↔ AreTranslationEqual d halves end)
+    × (status ≡ Done) × (text ≡ walk_text (length choices) same))
+    ⊎ ((place : ℕ) × IsWithoutWall d halves choices place × (status ≡ No (Wall place)) × (text ≡ status_line (No (Wall place))))
+    ⊎ ((formula : Formula) × (place : ℕ) × IsWideOnWalk d halves choices formula place
+    × (status ≡ TooWide formula (places.Walk place)) × (text ≡ status_line (TooWide formula (places.Walk place))))
+
+-- what a command that wants a base answers for an ending: for a strict one what it answers for the base, and else what `base` does
+abbrev pub AnswersAt : (List Half → Status → List ℕ → Type 0) → Point → Ending → Status → List ℕ → Type 0
+AnswersAt P at (Ending.strict later n) status text = P later status text
+AnswersAt P at other status text = (status ≡ status_of_ending at other) × (text ≡ text_of_ending at other)
+
+-- how the flipping ends at the file's points, and what such a command answers then
+abbrev pub AnswersFromBase : ℕ → (List Half → Status → List ℕ → Type 0) → Content → List Half → Status → List ℕ → Type 0
+AnswersFromBase flips P file halves status text =
+    (at : Point) × (ending : Ending) × EndsListed file.field halves (points_of file) flips at ending × AnswersAt P at ending status text
 
 -- what a command answers for an accepted file and its triangulation: a status and a text
 abbrev pub Answers : Command → Content → List Half → Status → List ℕ → Type 0
@@ -44,10 +64,10 @@ Answers Check file halves status text =
 Answers (Base flips) file halves status text =
     (at : Point) × (ending : Ending) × EndsListed file.field halves (points_of file) flips at ending
     × (status ≡ status_of_ending at ending) × (text ≡ text_of_ending at ending)
--- `region`: how the flipping ends there, and where it ends strictly the region of the base
-Answers (Region flips) file halves status text =
-    (at : Point) × (ending : Ending) × EndsListed file.field halves (points_of file) flips at ending
-    × AnswersRegion file.field at ending status text
+-- `region`: the walls and corners of the base's region
+Answers (Region flips) file halves status text = AnswersFromBase flips (IsRegionAnswer file.field) file halves status text
+-- `path`: the end of the walk from the base
+Answers (Path flips choices) file halves status text = AnswersFromBase flips (IsPathAnswer file.field choices) file halves status text
 
 -- the refusal of an input as a surface file, with its line
 abbrev pub IsFileRefusal : List ℕ → Status → List ℕ → Type 0
@@ -63,6 +83,9 @@ IsFileAnswer command input status text =
 abbrev pub Owes : Command → List ℕ → Status → List ℕ → Type 0
 Owes command input status text = IsFileRefusal input status text ⊎ IsFileAnswer command input status text
 
--- a status that may be answered where it is owed, but needn't be: a wide formula that the answer may do without
+-- a status that may be answered where it is owed, but needn't be: a wide formula that the answer may do without. A new diagonal that is
+-- wide on a walk (F12) is none: there the walk ends
 abbrev pub IsOptional : Status → Type 0
-IsOptional status = (formula : Formula) × (status ≡ TooWide formula places.Base)
+IsOptional status =
+    ((formula : Formula) × (status ≡ TooWide formula places.Base))
+    ⊎ ((formula : Formula) × (place : ℕ) × ¬ (formula ≡ F12) × (status ≡ TooWide formula (places.Walk place)))

@@ -9,9 +9,12 @@ use Rattle.delaunay_flip.specs.declared.base.BaseFault.{BaseFault}
 use Rattle.delaunay_flip.specs.declared.base.BaseFault.TheVariants as base_faults
 use Rattle.parabola_region.specs.declared.fault.RegionFault.{RegionFault}
 use Rattle.parabola_region.specs.declared.fault.RegionFault.TheVariants as region_faults
+use Rattle.path_walk.specs.declared.fault.WalkFault.{WalkFault}
+use Rattle.path_walk.specs.declared.fault.WalkFault.TheVariants as walk_faults
 use Rattle.answer_text.specs.declared.status.Status.{Status}
-use Rattle.answer_text.specs.declared.status.Status.TheVariants.{File, NotStrict, FlipsEnded, TooWide, ReadFault, Memory}
-use Rattle.answer_text.specs.declared.place.Place.TheVariants.{Flips, Base}
+use Rattle.answer_text.specs.declared.status.Status.TheVariants.{File, NotStrict, FlipsEnded, TooWide, ReadFault, Memory, No}
+use Rattle.answer_text.specs.declared.no_cause.NoCause.TheVariants.{Wall}
+use Rattle.answer_text.specs.declared.place.Place.TheVariants.{Flips, Base, Walk}
 
 -- the source wasn't read
 abbrev pub status_of_reading : ReadAll → Status
@@ -40,3 +43,9 @@ status_of_base base_faults.Memory = Memory
 abbrev pub status_of_region : RegionFault → Status
 status_of_region (region_faults.Wide formula) = TooWide formula Base
 status_of_region region_faults.Memory = Memory
+
+-- the walk has no end
+abbrev pub status_of_walk : WalkFault → Status
+status_of_walk (walk_faults.NoSuchWall place) = No (Wall place)
+status_of_walk (walk_faults.Wide formula place) = TooWide formula (Walk place)
+status_of_walk walk_faults.Memory = Memory

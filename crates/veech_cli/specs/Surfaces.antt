@@ -5,11 +5,13 @@ use Rattle.surface_text.specs.declared.file.Point.{Point}
 use Rattle.gluing.specs.Gluings.{Gluing, gluing_of}
 use Rattle.tri_core.specs.Triangulation.{Triangulation}
 use Rattle.answer_text.specs.declared.status.Status.{Status}
-use Rattle.answer_text.specs.declared.status.Status.TheVariants.{Done, File, Words, TooWide, WriteFault, Memory}
+use Rattle.answer_text.specs.declared.status.Status.TheVariants.{Done, File, Words, TooWide, WriteFault, Memory, No}
+use Rattle.answer_text.specs.declared.no_cause.NoCause.TheVariants.{Wall}
 use Rattle.answer_text.specs.declared.place.Place.TheVariants as places
 use Rattle.quad_field.specs.declared.formula.Formula.{Formula}
 use Rattle.tri_core.specs.declared.half.Half.{Half}
 use Rattle.parabola_region.specs.Instances.{IsWideInstance}
+use Rattle.path_walk.specs.Walks.{IsWithoutWall, IsWideOnWalk}
 use Rattle.answer_text.specs.Statuses.{HasBasePoint}
 use Rattle.answer_text.specs.Lines.{status_line}
 use Rattle.command_words.specs.declared.command.Command.{Command}
@@ -44,3 +46,10 @@ IsRefusalOf command input status = IsRefusal status × (Owes command input statu
 -- the status says that a formula is wide at an instance at the triangulation, or that memory ran out
 abbrev pub RefusesRegion : ℕ → List Half → Status → Type 0
 RefusesRegion d halves status = ((formula : Formula) × IsWideInstance d halves formula × (status ≡ TooWide formula places.Base)) ⊎ (status ≡ Memory)
+
+-- the status says that a walk has no wall for a choice, that a formula is wide on it, or that memory ran out
+abbrev pub RefusesWalk : ℕ → List Half → List ℕ → Status → Type 0
+RefusesWalk d halves choices status =
+    ((place : ℕ) × IsWithoutWall d halves choices place × (status ≡ No (Wall place)))
+    ⊎ ((formula : Formula) × (place : ℕ) × IsWideOnWalk d halves choices formula place × (status ≡ TooWide formula (places.Walk place)))
+    ⊎ (status ≡ Memory)

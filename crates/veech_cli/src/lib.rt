@@ -4,13 +4,14 @@
 mod base;
 mod check;
 pub mod laws;
+mod path;
 mod program;
 mod refusal;
 mod region;
 mod run;
 mod surface;
 
-pub use answer_text::{Place, Status, status_number};
+pub use answer_text::{NoCause, Place, Status, status_number};
 pub use command_words::WordList;
 pub use program::run_program;
 pub use run::run_plain;

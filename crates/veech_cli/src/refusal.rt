@@ -1,14 +1,15 @@
 //! Why a run has no output: the status that says so.
 
 ghost use Rattle.std.specs.Prelude.{◌≡◌};
-ghost use Rattle.veech_cli.specs.Refusals.{status_of_reading, status_of_text, status_of_gluing, status_of_base, status_of_region};
+ghost use Rattle.veech_cli.specs.Refusals.{status_of_reading, status_of_text, status_of_gluing, status_of_base, status_of_region, status_of_walk};
 ghost use Rattle.answer_text.specs.declared.status.Status.TheVariants.{Memory};
 
-use answer_text::{Place, Status};
+use answer_text::{NoCause, Place, Status};
 use delaunay_flip::BaseFault;
 use gluing::GlueFault;
 use io_ends::ReadAll;
 use parabola_region::RegionFault;
+use path_walk::WalkFault;
 use std::alloc::{AllocError, AllocFailed};
 use surface_text::TextFault;
 
@@ -86,6 +87,22 @@ impl From<RegionFault> for Refusal {
                 place: Place::Base,
             },
             RegionFault::Memory => Status::Memory,
+        };
+        Refusal { status }
+    }
+}
+
+impl From<WalkFault> for Refusal {
+    ghost from_gives = { λ fault refusal. refusal.status ≡ status_of_walk fault };
+
+    fn from(fault: WalkFault) -> Refusal {
+        let status = match fault {
+            WalkFault::NoSuchWall { place } => Status::No(NoCause::Wall { place }),
+            WalkFault::Wide { formula, place } => Status::TooWide {
+                formula,
+                place: Place::Walk { choice: place },
+            },
+            WalkFault::Memory => Status::Memory,
         };
         Refusal { status }
     }

@@ -16,6 +16,7 @@ ghost use Rattle.veech_cli.specs.Surfaces.{IsRefusal, IsRefusalOf};
 
 use super::base::base;
 use super::check::check;
+use super::path::path;
 use super::refusal::Refusal;
 use super::region::region;
 use super::{Status, WordList};
@@ -148,6 +149,7 @@ fn output(alloc: Global, command: Command, input: &[u8]) -> Result<Vec<u8>, Refu
         Command::Check => check(alloc, input),
         Command::Base { flips } => base(alloc, input, flips),
         Command::Region { flips } => region(alloc, input, flips),
+        Command::Path { flips, choices } => path(alloc, input, flips, choices.as_slice()),
     }
 }
 

@@ -1,0 +1,67 @@
+//! The command `path`.
+
+ghost use Rattle.std.specs.Prelude.{◌≡◌, ◌↔◌, ◌≤◌, IsTrue, length, IfOk, IfErr};
+ghost use Rattle.tri_core.specs.Images.{AreTranslationEqual};
+ghost use Rattle.answer_text.specs.declared.status.Status.TheVariants.{Done};
+ghost use Rattle.command_words.specs.declared.command.Command.TheVariants.{Path};
+ghost use Rattle.veech_cli.specs.Owed.{Owes, IsPathAnswer};
+ghost use Rattle.veech_cli.specs.Surfaces.{IsRefusalOf, RefusesWalk};
+
+use super::base::base_of_surface;
+use super::refusal::Refusal;
+use super::surface::surface_of;
+use answer_text::path_text;
+use path_walk::walk;
+use plane::mat_identity;
+use quad_field::Field;
+use std::alloc::{AllocError, Global};
+use tri_core::{EqualFault, Tri, equal_by};
+
+/// What `path` prints for an input and these choices, with at most so many flips, or why there is nothing to print.
+pub(crate) fn path(
+    alloc: Global,
+    input: &[u8],
+    flips: u32,
+    choices: &[u32],
+) -> Result<Vec<u8>, Refusal>
+    requires input { length input.now ≤ 1048576 }
+    requires few { length choices.now ≤ 4096 }
+    ensures owed { IfOk result (λ text. Owes (Path flips choices.now) input.now Done text.items) }
+    ensures refused { IfErr result (λ refusal. IsRefusalOf (Path flips choices.now) input.now refusal.status) }
+{
+    let surface = surface_of(alloc, input)?;
+    let base = base_of_surface(alloc, &surface, flips)?;
+    let text = path_from(alloc, &surface.field, &base.tri, choices)?;
+    Ok(text)
+}
+
+/// The walk from a triangulation, as `path` prints it.
+fn path_from(
+    alloc: Global,
+    f: &Field,
+    tri: &Tri,
+    choices: &[u32],
+) -> Result<Vec<u8>, Refusal>
+    requires field { f.now ≡ tri.now.field }
+    requires few { length choices.now ≤ 4096 }
+    ensures answer { IfOk result (λ text. IsPathAnswer tri.now.field choices.now tri.now.halves Done text.items) }
+    ensures refused { IfErr result (λ refusal. RefusesWalk tri.now.field tri.now.halves choices.now refusal.status) }
+{
+    let end = walk(alloc, f, tri, choices)?;
+    let same = is_translation(alloc, f, tri, &end)?;
+    let text = path_text(alloc, choices.len() as u32, same)?;
+    Ok(text)
+}
+
+/// Whether two triangulations are translation-equal.
+fn is_translation(alloc: Global, f: &Field, one: &Tri, other: &Tri) -> Result<bool, AllocError>
+    requires one { f.now ≡ one.now.field }
+    requires other { f.now ≡ other.now.field }
+    ensures { IfOk result (λ same. IsTrue same ↔ AreTranslationEqual one.now.field one.now.halves other.now.halves) }
+{
+    match equal_by(alloc, f, &mat_identity(), one, other) {
+        Ok(same) => Ok(same),
+        Err(EqualFault::Wide) => unreachable!(),
+        Err(EqualFault::Memory) => Err(AllocError),
+    }
+}
