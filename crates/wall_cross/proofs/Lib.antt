@@ -8,3 +8,5 @@ pub mod Behind
 pub mod Back
 pub mod Crossed
 pub mod Orders
+pub mod Paths
+pub mod CallerLemmas
