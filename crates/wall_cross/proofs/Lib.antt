@@ -9,3 +9,4 @@ pub mod Back
 pub mod Crossed
 pub mod CallerLemmas
 pub mod Orders
+pub mod Paths

@@ -3,6 +3,7 @@
 #![tactic(auto)]
 
 mod crossing;
+mod diagonals;
 mod flips;
 pub mod laws;
 
