@@ -1,1 +1,4 @@
 pub mod Crossings
+pub mod Pulled
+pub mod Edges
+pub mod Correspondence

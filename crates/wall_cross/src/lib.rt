@@ -2,3 +2,4 @@
 //! What is behind a wall is strictly Delaunay at some half-plane point, and crossing back gives the first triangulation up to a translation.
 #![tactic(auto)]
 
+pub mod carried;
