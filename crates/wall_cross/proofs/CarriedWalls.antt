@@ -91,15 +91,15 @@ module _ (d : ℕ) (field : IsFieldNumber d) (n : Matrix Quad) (m : ℕ) (from t
     -- one is a wall exactly where the other is
     pub walls_match : IsWallLine d from l ↔ IsWallLine d to r
     walls_match = (
-      λ wall. line_of_rultiple d field to (pushed (quad_ops d) n l) r matching valid_to (wall_forth l wall),
-      λ wall. wall_back l (line_of_rultiple d field to r (pushed (quad_ops d) n l) back_again valid_to wall),
+      λ wall. line_of_multiple d field to (pushed (quad_ops d) n l) r matching valid_to (wall_forth l wall),
+      λ wall. wall_back l (line_of_multiple d field to r (pushed (quad_ops d) n l) back_again valid_to wall),
     )
 
     -- and their half-edges match
     pub halves_match : (k : ℕ) → k < length from → IsMultiple d l (full_triple d from k) ↔ IsMultiple d r (full_triple d to (forth k))
     halves_match k below = (
       λ h. through d field r (pushed (quad_ops d) n l) (full_triple d to (forth k)) back_again (multiple_forth l k below h),
-      λ h. multiple_back l k below (through d field (pushed (quad_ops d) n l) m (full_triple d to (forth k)) matching h),
+      λ h. multiple_back l k below (through d field (pushed (quad_ops d) n l) r (full_triple d to (forth k)) matching h),
     )
 
     -- and so their edges
@@ -141,4 +141,4 @@ module _ (d : ℕ) (field : IsFieldNumber d) (n : Matrix Quad) (m : ℕ) (from t
   wall_of_edge l edges h e wall own name =
       let of_l = (wall.all.exactly h).0 own in
       (walls_match (full_triple d from h) (full_triple d to e) (edge_forms_match h e of_l.0 name)).0
-      (line_of_rultiple d field from l (full_triple d from h) of_l.1 valid wall.line)
+      (line_of_multiple d field from l (full_triple d from h) of_l.1 valid wall.line)

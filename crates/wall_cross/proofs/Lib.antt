@@ -5,3 +5,5 @@ pub mod CarriedEdges
 pub mod CarriedHinges
 pub mod CarriedWalls
 pub mod CarriedWallLists
+pub mod CarriedNeighbours
+pub mod CarriedFlips
