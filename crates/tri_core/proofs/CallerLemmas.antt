@@ -8,7 +8,7 @@ pub use Rattle.tri_core.proofs.Triangles.{side_next, side_previous, next_next, p
 -- ---- the vectors of a triangle: they sum to zero, the first turns to the left into the second; the same from the next one on; the third from the others
 pub use Rattle.tri_core.proofs.Quadrilaterals.{IsTriple, triple_turned, triple_third, opposite_does_not_turn, from_opposite}
 -- ---- a half-edge of a triangulation: its triangle, each of the three from the others, its twin
-pub use Rattle.tri_core.proofs.Triangles.{IsTripleAt, triple_at, own_is, next_is, previous_is, opposite_of_twin}
+pub use Rattle.tri_core.proofs.Triangles.{IsTripleAt, triple_at, triple_along, IsTripleOf, triple_of, own_is, next_is, previous_is, opposite_of_twin}
 pub use Rattle.tri_core.proofs.Triangles.{number_small, next_inside, previous_inside, twin_inside, triangle_inside}
 pub use Rattle.tri_core.proofs.Triangles.{not_its_own, half_apart, edge_apart, half_or_twin, no_half_here, half_is}
 -- ---- a set of triangles that is closed under twins and holds some triangle holds all

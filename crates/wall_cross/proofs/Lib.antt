@@ -7,3 +7,6 @@ pub mod CarriedWalls
 pub mod CarriedWallLists
 pub mod CarriedNeighbours
 pub mod CarriedFlips
+pub mod CarriedCrossings
+pub mod CarriedTriangulations
+pub mod CarriedClasses

@@ -1,5 +1,5 @@
 -- The image of a triangulation is a triangulation.
-use Rattle.std.proofs.Common.{◌≡◌, ℕ, ◌+◌, ◌*◌, ◌%◌, ◌<◌, ◌≤◌, Bool, true, List, length, sym, ap, ◌∙◌, subst, arith, inl, inr, [], ◌∷◌}
+use Rattle.std.proofs.Common.{◌≡◌, ℕ, ◌*◌, ◌%◌, ◌<◌, ◌≤◌, Bool, true, List, length, sym, ap, ◌∙◌, subst, arith, inl, inr, [], ◌∷◌}
 use Rattle.std.specs.Prelude.{pos}
 use Rattle.std.proofs.lemmas.Bool.{cases_eq}
 use Rattle.rings.specs.Ring.{Ops, IsRing, var, expr}
@@ -17,7 +17,7 @@ use Rattle.tri_core.specs.declared.half.Half.{Half}
 use Rattle.tri_core.specs.HalfEdges.{vector_at, twin_at, next_of, previous_of, triangle_of}
 use Rattle.tri_core.specs.Triangulation.{IsTriangulation, IsTriangle, IsClosedUnderTwins, IsPaired}
 use Rattle.tri_core.specs.Images.{IsImage}
-use Rattle.tri_core.proofs.CallerLemmas.{IsTriple, IsTripleAt, triple_at, next_inside, previous_inside, side_next, joined_from, forth_inside, back_inside, forth_back, previous_kept, frame_carried}
+use Rattle.tri_core.proofs.CallerLemmas.{IsTripleAt, triple_at, IsTripleOf, triple_of, next_inside, previous_inside, side_next, joined_from, forth_inside, back_inside, forth_back, previous_kept, frame_carried}
 
 module _ {R : Type 0} (O : Ops R) (L : IsRing O) {P : R → Type 0} (Q : IsOrdered O P) where
   -- c·x = n·0 with c > 0 gives x = 0
@@ -26,14 +26,6 @@ module _ {R : Type 0} (O : Ops R) (L : IsRing O) {P : R → Type 0} (Q : IsOrder
     where
       one : (a b : R) → O.add (O.mul a (O.int (pos 0))) (O.mul b (O.int (pos 0))) ≡ O.int (pos 0)
       one a b = identity O L (a ∷ b ∷ []) (expr.add (expr.mul (var 0) (expr.int (pos 0))) (expr.mul (var 1) (expr.int (pos 0)))) (expr.int (pos 0)) tt
-
--- the sides of triangle t, from half-edge 3t
-triple_first : (d : ℕ) (halves : List Half) (t : ℕ) → IsTripleAt d halves (3 * t) → IsTriple d (vector_at halves (3 * t)) (vector_at halves (3 * t + 1)) (vector_at halves (3 * t + 2))
-triple_first d halves t own =
-    let n : next_of (3 * t) ≡ 3 * t + 1 = omega arith in
-    let p : previous_of (3 * t) ≡ 3 * t + 2 = omega arith in
-    subst (λ (m : ℕ). IsTriple d (vector_at halves (3 * t)) (vector_at halves (3 * t + 1)) (vector_at halves m)) p
-    (subst (λ (m : ℕ). IsTriple d (vector_at halves (3 * t)) (vector_at halves m) (vector_at halves (previous_of (3 * t)))) n own)
 
 module _ (d : ℕ) (field : IsFieldNumber d) (n : Matrix Quad) (m : ℕ) (from to : List Half) (forth back : ℕ → ℕ) (valid : IsTriangulation d from) (turns : IsPositive d (matrix_det (quad_ops d) n))
     (image : IsImage d n m from to forth back) where
@@ -77,8 +69,8 @@ module _ (d : ℕ) (field : IsFieldNumber d) (n : Matrix Quad) (m : ℕ) (from t
         turns = turn_carried O (quad_ring d) (order_of d field) n c u v x y some_c turns (image.vectors k below) (carried_next k below) own.turns;
       }
 
-  triples : (t : ℕ) → IsTriangle to t → IsTriple d (vector_at to (3 * t)) (vector_at to (3 * t + 1)) (vector_at to (3 * t + 2))
-  triples t inside = triple_first d to t (subst (IsTripleAt d to) (there (3 * t) inside) (triple_to (back (3 * t)) (here (3 * t) inside)))
+  triples : (t : ℕ) → IsTriangle to t → IsTripleOf d to t
+  triples t inside = triple_of d to t (subst (IsTripleAt d to) (there (3 * t) inside) (triple_to (back (3 * t)) (here (3 * t) inside)))
 
   paired_to : (i : ℕ) → i < length to → IsPaired d to i
   paired_to i below =
