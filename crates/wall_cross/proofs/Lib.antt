@@ -10,3 +10,6 @@ pub mod CarriedFlips
 pub mod CarriedCrossings
 pub mod CarriedTriangulations
 pub mod CarriedClasses
+pub mod CarriedLists
+pub mod CarriedExistence
+pub mod CarriedReach
