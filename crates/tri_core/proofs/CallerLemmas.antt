@@ -7,6 +7,8 @@ use Rattle.tri_core.proofs.Moves.{cycled-first, cycled-second, cycled-third, cyc
 pub use Rattle.tri_core.proofs.Triangles.{side_next, side_previous, next_next, previous_previous, next_previous, previous_next, of_one_triangle}
 -- ---- the vectors of a triangle: they sum to zero, the first turns to the left into the second; the same from the next one on; the third from the others
 pub use Rattle.tri_core.proofs.Quadrilaterals.{IsTriple, triple_turned, triple_third, opposite_does_not_turn, from_opposite}
+-- and of two triangles: the new diagonal with the sides behind it, and the sum of two sides by that of the others
+pub use Rattle.tri_core.proofs.Quadrilaterals.{triple_first, across}
 -- ---- a half-edge of a triangulation: its triangle, each of the three from the others, its twin
 pub use Rattle.tri_core.proofs.Triangles.{IsTripleAt, triple_at, triple_along, IsTripleOf, triple_of, own_is, next_is, previous_is, opposite_of_twin}
 pub use Rattle.tri_core.proofs.Triangles.{number_small, next_inside, previous_inside, twin_inside, triangle_inside}

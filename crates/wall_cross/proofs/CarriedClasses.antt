@@ -10,17 +10,14 @@ use Rattle.quad_field.specs.Quads.{quad_ops, IsPositive}
 use Rattle.quad_field.proofs.CallerLemmas.{quad_ring, natural_positive}
 use Rattle.tri_core.specs.declared.half.Half.{Half}
 use Rattle.tri_core.specs.Triangulation.{IsTriangulation}
-use Rattle.tri_core.specs.SeveralFlips.{is_among}
 use Rattle.tri_core.specs.Images.{IsImageBy, identity_matrix, AreTranslationEqual}
 use Rattle.hinge_form.specs.Triples.{Triple}
-use Rattle.hinge_form.specs.Walls.{IsWall}
-use Rattle.wall_cross.specs.Crossings.{AreAllFlipped, Crosses}
+use Rattle.wall_cross.specs.Crossings.{Crosses}
 use Rattle.wall_cross.specs.Edges.{AreMatching}
 use Rattle.wall_cross.proofs.CarriedImages.{image_composed, translation_back, translation_then_image, image_then_translation}
 use Rattle.wall_cross.proofs.ValidImages.{image_valid}
-use Rattle.wall_cross.proofs.CarriedNeighbours.{convex_on_wall}
-use Rattle.wall_cross.proofs.CarriedCrossings.{member_multiple, wall_spread, crossing_image}
-use Rattle.wall_cross.proofs.CarriedTriangulations.{flipped_valid}
+use Rattle.wall_cross.proofs.Behind.{crossing_valid}
+use Rattle.wall_cross.proofs.CarriedCrossings.{crossing_image}
 
 -- ---- triangulations
 -- det(1, 0; 0, 1) = 1
@@ -31,16 +28,10 @@ identity_turns d =
 pub translated_valid : (d : ℕ) (from to : List Half) → IsFieldNumber d → IsTriangulation d from → AreTranslationEqual d from to → IsTriangulation d to
 translated_valid d from to field valid move = image_valid d field (identity_matrix (quad_ops d)) 1 from to move.0 move.1 valid (identity_turns d) move.2
 
-module _ (d : ℕ) (field : IsFieldNumber d) (halves : List Half) (valid : IsTriangulation d halves) (l : Triple) (edges : List ℕ) where
-  -- all flips of a wall leave a triangulation
-  pub all_flipped_valid : IsWall d halves l edges → (later : List Half) → AreAllFlipped d halves edges later → IsTriangulation d later
-  all_flipped_valid wall later flips =
-      flipped_valid d halves valid (is_among halves edges (length edges)) (wall_spread d halves valid l edges wall.all field wall.line) later flips
-      (λ h below member. convex_on_wall d field halves valid l wall.line h below (member_multiple d halves valid l edges wall.all h below member))
-
-  -- and so does a crossing
-  pub crossing_valid : (later : List Half) → Crosses d halves l edges later → IsTriangulation d later
-  crossing_valid later cross = translated_valid d cross.1.0 later field (all_flipped_valid cross.0 cross.1.0 cross.1.1) cross.1.2
+-- a crossing leaves one
+pub cross_valid : (d : ℕ) → IsFieldNumber d → (halves : List Half) → IsTriangulation d halves → (l : Triple) (edges : List ℕ) (later : List Half) → Crosses d halves l edges later → IsTriangulation d later
+cross_valid d field halves valid l edges later cross =
+    translated_valid d cross.1.0 later field (crossing_valid d field halves valid l edges cross.0 cross.1.0 cross.1.1) cross.1.2
 
 -- ---- images of crossings
 module _ (d : ℕ) (field : IsFieldNumber d) (n : Matrix Quad) (m : ℕ) (from to : List Half) (valid : IsTriangulation d from) (valid_to : IsTriangulation d to) (image : IsImageBy d n m from to)
@@ -49,13 +40,13 @@ module _ (d : ℕ) (field : IsFieldNumber d) (n : Matrix Quad) (m : ℕ) (from t
   cross_image later later_to one two =
       let flipped = one.1.0 in
       let flipped_to = two.1.0 in
-      let carried = crossing_image d field n m from to image.0 image.1 valid valid_to image.2 l k matching edges others one.0.all two.0.all one.0.line flipped flipped_to one.1.1 two.1.1 in
+      let carried = crossing_image d field n m from to image.0 image.1 valid valid_to image.2 l k matching edges others one.0 two.0 flipped flipped_to one.1.1 two.1.1 in
       let move = one.1.2 in
       let move_to = two.1.2 in (
         (λ j. move_to.0 (image.0 (move.1 j))),
         (λ j. move.0 (image.1 (move_to.1 j))),
         translation_then_image d n m later flipped later_to move.1 move.0 (λ j. move_to.0 (image.0 j)) (λ j. image.1 (move_to.1 j))
-            (translation_back d flipped later move.0 move.1 (all_flipped_valid d field from valid l edges one.0 flipped one.1.1) move.2)
+            (translation_back d flipped later move.0 move.1 (crossing_valid d field from valid l edges one.0 flipped one.1.1) move.2)
             (image_then_translation d n m flipped flipped_to later_to image.0 image.1 move_to.0 move_to.1 carried move_to.2),
       )
 

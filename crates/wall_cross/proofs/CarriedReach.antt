@@ -24,9 +24,9 @@ use Rattle.wall_cross.specs.Crossings.{Crosses, LeadsIn}
 use Rattle.wall_cross.proofs.CarriedLists.{listing_some, reduced_some}
 use Rattle.wall_cross.proofs.CarriedEdges.{edge_name, name_form}
 use Rattle.wall_cross.proofs.CarriedWalls.{through, swapped, multiple_forth, multiple_back, walls_match}
-use Rattle.wall_cross.proofs.CarriedCrossings.{member_multiple, multiple_member, wall_spread}
+use Rattle.wall_cross.proofs.Members.{on_line, from_line, wall_spread}
 use Rattle.wall_cross.proofs.CarriedExistence.{flipped, flipped_some}
-use Rattle.wall_cross.proofs.CarriedClasses.{crossing_valid, cross_image}
+use Rattle.wall_cross.proofs.CarriedClasses.{cross_valid, cross_image}
 
 -- ---- which of two facts holds, as a truth value
 decided : {A B : Type 0} → A ⊎ B → Bool
@@ -61,7 +61,7 @@ module _ (d : ℕ) (field : IsFieldNumber d) (n : Matrix Quad) (m : ℕ) (from t
       let up : e < twin_at to e = own.0.1 in (
         own.0.0,
         and_from (decided (cases_lt e (twin_at to e))) (is_among from edges (length edges) (back e)) (decided_true (cases_lt e (twin_at to e)) (λ low. omega (arith, up, low)))
-            (multiple_member d from valid l edges wall.all (back e) inside
+            (from_line d field from valid l edges wall (back e) inside
             (multiple_back d field n m from to forth back valid valid_to image l (back e) inside (subst (λ (i : ℕ). IsMultiple d line (full_triple d to i)) (sym there) own.1))),
       )
 
@@ -73,7 +73,7 @@ module _ (d : ℕ) (field : IsFieldNumber d) (n : Matrix Quad) (m : ℕ) (from t
       let parts = and_parts (decided (cases_lt e (twin_at to e))) (is_among from edges (length edges) (back e)) is in (
         (below, decided_first (cases_lt e (twin_at to e)) parts.0),
         subst (λ (i : ℕ). IsMultiple d line (full_triple d to i)) there
-            (multiple_forth d field n m from to forth back valid valid_to image l (back e) inside (member_multiple d from valid l edges wall.all (back e) inside parts.1)),
+            (multiple_forth d field n m from to forth back valid valid_to image l (back e) inside (on_line d field from valid l edges wall (back e) inside parts.1)),
       )
 
   listing : (others : List ℕ) × IsListing (IsEdgeOf d to (pushed (quad_ops d) n l)) others
@@ -132,7 +132,7 @@ module _ (d : ℕ) (field : IsFieldNumber d) (n : Matrix Quad) (m : ℕ) (from t
   pub wall_crossed : (k : Triple) (others : List ℕ) → IsWall d to k others → (later : List Half) × Crosses d to k others later
   wall_crossed k others wall =
       let set = is_among to others (length others) in
-      let spread = wall_spread d to valid_to k others wall.all field wall.line in
+      let spread = wall_spread d field to valid_to k others wall in
       let later = flipped d to valid_to set spread in
       (later, (wall, (later, flipped_some d to valid_to set spread, translation_same d later)))
 
@@ -149,7 +149,7 @@ reached_valid d field from valid zero to same = subst (IsTriangulation d) (sym s
 reached_valid d field from valid (suc steps) to path =
     let between = path.0 in
     let last = path.2 in
-    crossing_valid d field between (reached_valid d field from valid steps between path.1) last.0 last.1 to last.2
+    cross_valid d field between (reached_valid d field from valid steps between path.1) last.0 last.1 to last.2
 
 pub reached_image : (d : ℕ) → IsFieldNumber d → (n : Matrix Quad) (m : ℕ) (from to : List Half) → IsTriangulation d from → IsTriangulation d to → IsImageBy d n m from to
     → (steps : ℕ) (later : List Half) → LeadsIn d from steps later → (later_to : List Half) × LeadsIn d to steps later_to × IsImageBy d n m later later_to

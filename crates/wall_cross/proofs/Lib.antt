@@ -1,3 +1,12 @@
+pub mod Apexes
+pub mod Sides
+pub mod AtOnce
+pub mod Members
+pub mod Ahead
+pub mod Values
+pub mod Behind
+pub mod Back
+pub mod Crossed
 pub mod Pulled
 pub mod CarriedImages
 pub mod ValidImages
@@ -5,10 +14,8 @@ pub mod CarriedEdges
 pub mod CarriedHinges
 pub mod CarriedWalls
 pub mod CarriedWallLists
-pub mod CarriedNeighbours
 pub mod CarriedFlips
 pub mod CarriedCrossings
-pub mod CarriedTriangulations
 pub mod CarriedClasses
 pub mod CarriedLists
 pub mod CarriedExistence

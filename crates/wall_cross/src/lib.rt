@@ -3,3 +3,8 @@
 #![tactic(auto)]
 
 pub mod carried;
+mod crossing;
+mod flips;
+pub mod laws;
+
+pub use crossing::{CrossFault, cross, cross_back, cross_in_place};

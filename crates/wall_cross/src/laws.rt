@@ -1,0 +1,1 @@
+//! The laws of crossings, each the contract of a function that does nothing.
