@@ -101,7 +101,7 @@ translation_back d from to forth back valid image =
     let n = identity_matrix (quad_ops d) in
     translation_from d to from back forth (sym image.count) (back_once d n 1 from to forth back valid image) (back_next d n 1 from to forth back valid image) (back_twin d n 1 from to forth back valid image)
     (λ k below.
-        sym (translation_vectors d from to forth back image (back k) (back_inside d n 1 from to forth back image k below)) ∙ ap (vector_at to) (forth_back d n 1 from to forth back image k below))
+    sym (translation_vectors d from to forth back image (back k) (back_inside d n 1 from to forth back image k below)) ∙ ap (vector_at to) (forth_back d n 1 from to forth back image k below))
 
 -- an image of a translation, and a translation of an image
 pub translation_then_image : (d : ℕ) (n : Matrix Quad) (m : ℕ) (one two three : List Half) (forth back next_forth next_back : ℕ → ℕ)

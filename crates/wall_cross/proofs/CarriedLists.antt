@@ -164,10 +164,10 @@ module _ (full : Triple) where
       ) in
       let greatest : (k : ℕ) → DividesAll k (full.0 ∷ full.1 ∷ full.2 ∷ []) → k ∣ all =
       λ k h.
-          let a : DividesParts k full.0 = h 0 full.0 (omega arith) in
-          let b : DividesParts k full.1 = h 1 full.0 (omega arith) in
-          let c : DividesParts k full.2 = h 2 full.0 (omega arith) in
-          three.2 k (both.2 k (first.1.2 k a.0 a.1) (second.1.2 k b.0 b.1)) (third.1.2 k c.0 c.1) in (
+      let a : DividesParts k full.0 = h 0 full.0 (omega arith) in
+      let b : DividesParts k full.1 = h 1 full.0 (omega arith) in
+      let c : DividesParts k full.2 = h 2 full.0 (omega arith) in
+      three.2 k (both.2 k (first.1.2 k a.0 a.1) (second.1.2 k b.0 b.1)) (third.1.2 k c.0 c.1) in (
         x,
         record {
           divisor = all;

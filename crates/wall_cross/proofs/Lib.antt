@@ -20,3 +20,4 @@ pub mod CarriedClasses
 pub mod CarriedLists
 pub mod CarriedExistence
 pub mod CarriedReach
+pub mod CarriedCallers

@@ -103,6 +103,15 @@ module _ {R : Type 0} (O : Ops R) (L : IsRing O) where
       let values = n.0 ∷ n.1 ∷ n.2 ∷ n.3 ∷ l.0 ∷ l.1 ∷ l.2 ∷ [] in
       triples_equal O L _ _ (identity O L values x.0 y.0 tt) (identity O L values x.1 y.1 tt) (identity O L values x.2 y.2 tt)
 
+  -- the other way round
+  pub pushed_forth : (n : Matrix R) (l : Triple R) → pushed O n (pushed O (adjugate O n) l) ≡ multiple O (matrix_det O n ⊗ matrix_det O n) l
+  pushed_forth n l =
+      let x = pushed expr n' (pushed expr (adjugate expr n') q') in
+      let y = multiple expr (matrix_det expr n' *' matrix_det expr n') q' in
+      let values = n.0 ∷ n.1 ∷ n.2 ∷ n.3 ∷ l.0 ∷ l.1 ∷ l.2 ∷ [] in
+      triples_equal O L _ _ (identity O L values x.0 y.0 tt) (identity O L values x.1 y.1 tt) (identity O L values x.2 y.2 tt)
+
+  -- the form pushed from a multiple
   pub pushed_multiple : (n : Matrix R) (c : R) (l : Triple R) → pushed O n (multiple O c l) ≡ multiple O c (pushed O n l)
   pushed_multiple n c l =
       let x = pushed expr n' (multiple expr (var 7) q') in
@@ -202,6 +211,19 @@ module _ {R : Type 0} (O : Ops R) (L : IsRing O) {P : R → Type 0} (Q : IsOrder
       Q.product _ _ h.3 square_turns,
       sym (multiple_twice O L h.0 (D ⊗ D) k) ∙ ap (multiple O h.0) (sym (pushed_back O L n k)) ∙ sym (pushed_multiple O L (adjugate O n) h.0 (pushed O n k)) ∙ ap (pushed O (adjugate O n)) h.4
           ∙ pushed_multiple O L (adjugate O n) h.1 (pushed O n l) ∙ ap (multiple O h.1) (pushed_back O L n l) ∙ multiple_twice O L h.1 (D ⊗ D) l,
+    )
+
+    -- every form is pushed from one, up to a positive multiple
+    pub pushed_onto : (k : Triple R) → (l : Triple R) × IsPositiveMultiple O P (pushed O n l) k
+    pushed_onto k = (
+      pushed O (adjugate O n) k,
+      (
+        (D ⊗ D) ⊗ (D ⊗ D),
+        D ⊗ D,
+        Q.product _ _ square_turns square_turns,
+        square_turns,
+        sym (multiple_twice O L (D ⊗ D) (D ⊗ D) k) ∙ ap (multiple O (D ⊗ D)) (sym (pushed_forth O L n k)),
+      ),
     )
 
     -- ---- forms that are carried: a positive multiple of B (forth k) is one of the pushed A k

@@ -39,9 +39,17 @@ pub fn each_point_is_pulled()
 {}
 
 /// Two places are positive multiples exactly where their pulled places are.
-pub fn pulled_points_are_apart()
+pub fn multiples_are_pulled()
     ensures { (d : ℕ) (n : Matrix Quad) (q r : Triple) → IsFieldNumber d → IsPositive d (matrix_det (quad_ops d) n)
         → IsMultiple d q r ↔ IsMultiple d (pulled (quad_ops d) n q) (pulled (quad_ops d) n r) }
+{}
+
+/// Each line is carried from one, and only from one: the forms from which one form is carried are positive multiples.
+pub fn lines_are_carried()
+    ensures each { (d : ℕ) (n : Matrix Quad) (k : Triple) → IsFieldNumber d → IsPositive d (matrix_det (quad_ops d) n)
+        → (l : Triple) × AreMatching d n l k }
+    ensures once { (d : ℕ) (n : Matrix Quad) (l j k : Triple) → IsFieldNumber d → IsPositive d (matrix_det (quad_ops d) n)
+        → AreMatching d n l k → AreMatching d n j k → IsMultiple d l j }
 {}
 
 /// The hinge value of each half-edge of an image at each place is that of its half-edge at the pulled place,
@@ -68,7 +76,7 @@ pub fn walls_are_carried()
         → AreMatching d n l k → IsWallLine d from l ↔ IsWallLine d to k }
 {}
 
-/// Its edges are the images of the edges of the other: and the line of each edge is carried to that of the edge's image.
+/// The line of each edge is carried to that of the edge's image, and the edges of a line to the edges of the line that it is carried to.
 pub fn edges_are_carried()
     ensures line { (d : ℕ) (n : Matrix Quad) (m : ℕ) (from to : List Half) (forth back : ℕ → ℕ) (h e : ℕ)
         → IsFieldNumber d → IsTriangulation d from → IsTriangulation d to → IsImage d n m from to forth back

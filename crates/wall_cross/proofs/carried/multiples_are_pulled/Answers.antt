@@ -1,7 +1,7 @@
 use Rattle.quad_field.specs.Quads.{quad_ops}
 use Rattle.quad_field.proofs.CallerLemmas.{quad_ring, order_of}
 use Rattle.wall_cross.proofs.Pulled.{multiple_pulled, multiple_unpulled}
-use Rattle.wall_cross.proofs.carried.pulled_points_are_apart.Goals as goal
+use Rattle.wall_cross.proofs.carried.multiples_are_pulled.Goals as goal
 
 pub returns : goal.returns
 returns c = λ d n q r field turns. (
