@@ -153,6 +153,13 @@ module _ (d : ℕ) (field : IsFieldNumber d) (halves : List Half) (valid : IsTri
   triple_behind : (i : ℕ) → i < length edges → full_triple d later (slice_index edges i) ≡ opposite_triple (quad_ops d) (full_triple d halves (slice_index edges i))
   triple_behind i less = member_triple d halves valid (is_among halves edges (length edges)) spread later flips (edge i) (listed_inside d field halves valid form edges wall i less) (listed_member i less)
 
+  -- the values of the wall's edges are the opposite ones
+  pub opposite_behind : (h : ℕ) → Contains edges h → (q : Triple) → hinge_value d later h q ≡ (quad_ops d).neg (hinge_value d halves h q)
+  opposite_behind h c q =
+      let at = place_of edges h c in
+      subst (λ (k : ℕ). hinge_value d later k q ≡ O.neg (hinge_value d halves k q)) at.2
+      (member_value d halves valid (is_among halves edges (length edges)) spread later flips (edge at.0) (listed_inside d field halves valid form edges wall at.0 at.1) (listed_member at.0 at.1) q)
+
   multiple_behind : (i : ℕ) → i < length edges → IsMultiple d (opposite_triple (quad_ops d) form) (full_triple d later (slice_index edges i))
   multiple_behind i less =
       let own = (listed d field halves valid form edges wall i less).1 in

@@ -16,6 +16,7 @@ pub use Rattle.wall_cross.proofs.CarriedExistence.{flipped_some}
 pub use Rattle.wall_cross.proofs.CarriedFlips.{all_flipped_image}
 -- ---- crossings: each is a triangulation and has an image; those of one wall and of the wall that it is carried to; those of a class
 pub use Rattle.wall_cross.proofs.CarriedClasses.{cross_valid, cross_image, class_crossing}
-pub use Rattle.wall_cross.proofs.CarriedReach.{wall_carried, crossing_carried}
--- ---- what is reached: triangulations, and it is carried
+pub use Rattle.wall_cross.proofs.CarriedReach.{wall_crossed, wall_carried, crossing_carried}
+-- ---- what is reached: triangulations, and it is carried; from behind a wall, and from what is reached, a path leads back
 pub use Rattle.wall_cross.proofs.CarriedReach.{reached_valid, reached_image}
+pub use Rattle.wall_cross.proofs.CarriedBack.{crossed_over, reached_back}

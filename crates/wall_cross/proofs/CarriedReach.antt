@@ -13,7 +13,7 @@ use Rattle.tri_core.specs.HalfEdges.{twin_at}
 use Rattle.tri_core.specs.Triangulation.{IsTriangulation}
 use Rattle.tri_core.specs.SeveralFlips.{is_among}
 use Rattle.tri_core.specs.Images.{IsImage, IsImageBy}
-use Rattle.tri_core.proofs.CallerLemmas.{forth_inside, back_inside, forth_back, translation_same}
+use Rattle.tri_core.proofs.CallerLemmas.{forth_inside, back_inside, forth_back}
 use Rattle.hinge_form.specs.Hinges.{Triple, full_triple, IsHingeTriple}
 use Rattle.hinge_form.specs.Lines.{IsMultiple}
 use Rattle.hinge_form.specs.Walls.{IsEdgeOf, IsListing, IsWall}
@@ -21,6 +21,7 @@ use Rattle.hinge_form.proofs.CallerLemmas.{full_some, multiple_of_hinge, least_e
 use Rattle.wall_cross.specs.Pulled.{pushed}
 use Rattle.wall_cross.specs.Edges.{AreMatching}
 use Rattle.wall_cross.specs.Crossings.{Crosses, LeadsIn}
+use Rattle.wall_cross.proofs.Crossed.{crossing_of_wall}
 use Rattle.wall_cross.proofs.CarriedLists.{listing_some, reduced_some}
 use Rattle.wall_cross.proofs.CarriedEdges.{edge_name, name_form}
 use Rattle.wall_cross.proofs.CarriedWalls.{through, swapped, multiple_forth, multiple_back, walls_match}
@@ -126,21 +127,21 @@ module _ (d : ℕ) (field : IsFieldNumber d) (n : Matrix Quad) (m : ℕ) (from t
       let reduced = reduced_some (full_triple d to (slice_index others 0)) (full_some d to (slice_index others 0) valid_to (least_own others all).0.0 field) in
       (reduced.0, others, matching others all reduced.0 reduced.1, carried_wall others all reduced.0 reduced.1)
 
+-- ---- a wall can be crossed
+pub wall_crossed : (d : ℕ) → IsFieldNumber d → (halves : List Half) → IsTriangulation d halves → (l : Triple) (edges : List ℕ) → IsWall d halves l edges → (later : List Half) × Crosses d halves l edges later
+wall_crossed d field halves valid l edges wall =
+    let set = is_among halves edges (length edges) in
+    let spread = wall_spread d field halves valid l edges wall in
+    let later = flipped d halves valid set spread in
+    (later, crossing_of_wall d halves later l edges wall (flipped_some d halves valid set spread))
+
 -- ---- a crossing has an image
 module _ (d : ℕ) (field : IsFieldNumber d) (n : Matrix Quad) (m : ℕ) (from to : List Half) (valid : IsTriangulation d from) (valid_to : IsTriangulation d to) (image : IsImageBy d n m from to) where
-  -- a wall can be crossed
-  pub wall_crossed : (k : Triple) (others : List ℕ) → IsWall d to k others → (later : List Half) × Crosses d to k others later
-  wall_crossed k others wall =
-      let set = is_among to others (length others) in
-      let spread = wall_spread d field to valid_to k others wall in
-      let later = flipped d to valid_to set spread in
-      (later, (wall, (later, flipped_some d to valid_to set spread, translation_same d later)))
-
   pub crossing_carried : (l : Triple) (edges : List ℕ) (later : List Half) → Crosses d from l edges later
       → (k : Triple) × (others : List ℕ) × (later_to : List Half) × AreMatching d n l k × Crosses d to k others later_to × IsImageBy d n m later later_to
   crossing_carried l edges later cross =
       let found = wall_carried d field n m from to image.0 image.1 valid valid_to image.2 l edges cross.0 in
-      let over = wall_crossed found.0 found.1 found.3 in
+      let over = wall_crossed d field to valid_to found.0 found.1 found.3 in
       (found.0, found.1, over.0, found.2, over.1, cross_image d field n m from to valid valid_to image l found.0 edges found.1 found.2 later over.0 cross over.1)
 
 -- ---- what is reached

@@ -7,6 +7,7 @@ pub mod Values
 pub mod Behind
 pub mod Back
 pub mod Crossed
+pub mod Orders
 pub mod Pulled
 pub mod CarriedImages
 pub mod ValidImages
@@ -21,3 +22,4 @@ pub mod CarriedLists
 pub mod CarriedExistence
 pub mod CarriedReach
 pub mod CarriedCallers
+pub mod CarriedBack

@@ -10,10 +10,10 @@ ghost use Rattle.quad_field.specs.declared.quad.Quad.{Quad};
 ghost use Rattle.tri_core.specs.declared.half.Half.{Half};
 ghost use Rattle.tri_core.specs.Triangulation.{IsTriangulation};
 ghost use Rattle.tri_core.specs.Flips.{IsEdge, IsFlip, IsStrictlyConvex};
-ghost use Rattle.tri_core.specs.Images.{IsImage, IsImageBy};
+ghost use Rattle.tri_core.specs.Images.{IsImage, IsImageBy, AreTranslationEqual};
 ghost use Rattle.hinge_form.specs.Hinges.{Triple, IsHalfPlanePoint, IsStrictAt, height, hinge_value, full_triple};
 ghost use Rattle.hinge_form.specs.Lines.{IsMultiple};
-ghost use Rattle.hinge_form.specs.Walls.{IsEdgeOf, IsWallLine};
+ghost use Rattle.hinge_form.specs.Walls.{IsEdgeOf, IsWallLine, IsWall};
 ghost use Rattle.wall_cross.specs.Pulled.{pulled};
 ghost use Rattle.wall_cross.specs.Edges.{IsEdgeName, AreMatching};
 ghost use Rattle.wall_cross.specs.Correspondence.{AreWalls, IsWallPair};
@@ -146,6 +146,18 @@ pub fn reached_ones_are_carried()
         → IsFieldNumber d → IsTriangulation d from → IsTriangulation d to → IsImageBy d n m from to
         → IsReached d from later
         → (later_to : List Half) × IsReached d to later_to × IsImageBy d n m later later_to }
+{}
+
+/// From what is reached something is reached that is translation-equal to where the path began.
+pub fn reached_ones_reach_back()
+    ensures { (d : ℕ) (from to : List Half) → IsFieldNumber d → IsTriangulation d from → IsReached d from to
+        → (back : List Half) × IsReached d to back × AreTranslationEqual d from back }
+{}
+
+/// Each wall has a crossing.
+pub fn each_wall_has_a_crossing()
+    ensures { (d : ℕ) (halves : List Half) (form : Triple) (edges : List ℕ) → IsFieldNumber d → IsTriangulation d halves → IsWall d halves form edges
+        → (later : List Half) × Crosses d halves form edges later }
 {}
 
 /// An image of an image is an image: first n/c, then m/b, is (m·n)/(b·c).
