@@ -1,13 +1,12 @@
 -- From behind a wall a crossing leads back, up to a translation; and so does a path from what is reached.
-use Rattle.std.proofs.Common.{◌≡◌, ℕ, zero, suc, List, length, refl, sym, subst}
+use Rattle.std.proofs.Common.{ℕ, zero, suc, List, refl, sym, subst}
 use Rattle.quad_field.specs.FieldNumber.{IsFieldNumber}
 use Rattle.quad_field.specs.Quads.{quad_ops}
 use Rattle.tri_core.specs.declared.half.Half.{Half}
 use Rattle.tri_core.specs.Triangulation.{IsTriangulation}
 use Rattle.tri_core.specs.Images.{identity_matrix, AreTranslationEqual}
 use Rattle.tri_core.proofs.CallerLemmas.{translation_same}
-use Rattle.hinge_form.specs.Triples.{Triple}
-use Rattle.wall_cross.specs.Crossings.{Crosses, LiesBehind, LeadsIn, IsReached}
+use Rattle.wall_cross.specs.Crossings.{LiesBehind, LeadsIn, IsReached}
 use Rattle.wall_cross.proofs.Behind.{crossing_valid}
 use Rattle.wall_cross.proofs.Crossed.{wall_again, crossed_back}
 use Rattle.wall_cross.proofs.CarriedImages.{translation_then_image}

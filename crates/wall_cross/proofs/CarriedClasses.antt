@@ -1,5 +1,5 @@
 -- Crossings up to translations: that they are triangulations, their images, and the crossings of a class.
-use Rattle.std.proofs.Common.{◌≡◌, ℕ, ◌*◌, [], List, length, sym, subst, arith}
+use Rattle.std.proofs.Common.{ℕ, ◌*◌, [], List, subst, arith}
 use Rattle.std.specs.Prelude.{pos}
 use Rattle.rings.specs.Ring.{expr}
 use Rattle.rings.specs.Matrices.{Matrix, matrix_det, matrix_product}

@@ -17,7 +17,7 @@ use Rattle.tri_core.specs.SeveralFlips.{is_among, IsSpread, number_after_all, Ar
 use Rattle.tri_core.specs.Images.{AreInverse, IsImage}
 use Rattle.tri_core.proofs.CallerLemmas.{side_next, side_previous, half_apart, next_inside, previous_inside, twin_inside, flip_from_twin}
 use Rattle.tri_core.proofs.CallerLemmas.{number_following, number_preceding, number_staying, comes_from, bool_equal, among_cases, among_from, among_twin, all_first}
-use Rattle.tri_core.proofs.CallerLemmas.{forth_inside, back_inside, forth_back, forth_injective, previous_kept, image_turns_left}
+use Rattle.tri_core.proofs.CallerLemmas.{forth_inside, forth_injective, previous_kept, image_turns_left}
 
 -- ---- flips at once
 module _ (d : ℕ) (n : Matrix Quad) (m : ℕ) (from to : List Half) (forth back : ℕ → ℕ) (valid : IsTriangulation d from) (image : IsImage d n m from to forth back) (set set_to : ℕ → Bool)

@@ -1,6 +1,5 @@
 -- The walls of an image: a line is one exactly where the carried line is, with the carried edges.
 use Rattle.std.proofs.Common.{◌↔◌, ℕ, ◌<◌, List, length, sym, subst}
-use Rattle.std.specs.Prelude.{pos}
 use Rattle.std.specs.List.{Contains}
 use Rattle.rings.specs.Matrices.{Matrix, matrix_det}
 use Rattle.rings.specs.Bounds.{HasPoint}

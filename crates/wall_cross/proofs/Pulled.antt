@@ -5,13 +5,12 @@ use Rattle.rings.specs.Ring.{Ops, IsRing, Expr, var, expr}
 use Rattle.rings.specs.Order.{IsOrdered}
 use Rattle.rings.specs.Forms.{det, length_by, inner_value, value_at, hinge_triple}
 use Rattle.rings.specs.Vectors.{Vector, multiple_vector}
-use Rattle.rings.specs.Matrices.{Matrix, mapped, matrix_det, matrix_product, adjugate, multiple_matrix}
+use Rattle.rings.specs.Matrices.{Matrix, mapped, matrix_det, adjugate, multiple_matrix}
 use Rattle.rings.specs.Lines.{Triple, multiple, IsInside, IsPositiveMultiple}
 use Rattle.rings.specs.Bounds.{HasPoint}
 use Rattle.rings.proofs.Solver.{identity}
 use Rattle.rings.proofs.Ordered.{factor}
 use Rattle.rings.proofs.Multiples.{triples_equal, multiple_twice, multiple_value, value_at_multiple, multiple_through, multiple_swapped}
-use Rattle.rings.proofs.Matrices.{adjugate_det}
 use Rattle.tri_core.specs.Images.{AreInverse}
 use Rattle.hinge_form.proofs.CallerLemmas.{length_turned}
 use Rattle.wall_cross.specs.Pulled.{pulled, pushed}

@@ -1,6 +1,7 @@
 //! What happens at a triangulation happens, carried by the matrix, at each of its images. Each law is the contract of a function that does nothing.
 
 ghost use Rattle.std.specs.Prelude.{◌≡◌, ◌↔◌, ◌<◌, ◌*◌, ℕ, pos, List, length};
+ghost use Rattle.rings.specs.Forms.{value_at};
 ghost use Rattle.rings.specs.Vectors.{Vector, multiple_vector};
 ghost use Rattle.rings.specs.Matrices.{Matrix, mapped, matrix_det, matrix_product, multiple_matrix};
 ghost use Rattle.rings.specs.Lines.{multiple};
@@ -14,7 +15,7 @@ ghost use Rattle.tri_core.specs.Images.{IsImage, IsImageBy, AreTranslationEqual}
 ghost use Rattle.hinge_form.specs.Hinges.{Triple, IsHalfPlanePoint, IsStrictAt, height, hinge_value, full_triple};
 ghost use Rattle.hinge_form.specs.Lines.{IsMultiple};
 ghost use Rattle.hinge_form.specs.Walls.{IsEdgeOf, IsWallLine, IsWall};
-ghost use Rattle.wall_cross.specs.Pulled.{pulled};
+ghost use Rattle.wall_cross.specs.Pulled.{pulled, pushed};
 ghost use Rattle.wall_cross.specs.Edges.{IsEdgeName, AreMatching};
 ghost use Rattle.wall_cross.specs.Correspondence.{AreWalls, IsWallPair};
 ghost use Rattle.wall_cross.specs.Crossings.{Crosses, IsReached};
@@ -23,6 +24,12 @@ ghost use Rattle.wall_cross.specs.Crossings.{Crosses, IsReached};
 pub fn heights_are_pulled()
     ensures { (d : ℕ) (n : Matrix Quad) (q : Triple) (v : Vector Quad)
         → height d q (mapped (quad_ops d) n v) ≡ height d (pulled (quad_ops d) n q) v }
+{}
+
+/// Every form has at the pulled place the value that its pushed form has at the place.
+pub fn values_are_pushed()
+    ensures { (d : ℕ) (n : Matrix Quad) (l q : Triple)
+        → value_at (quad_ops d) (pushed (quad_ops d) n l) q ≡ value_at (quad_ops d) l (pulled (quad_ops d) n q) }
 {}
 
 /// A matrix of positive determinant pulls each half-plane point to a half-plane point.
