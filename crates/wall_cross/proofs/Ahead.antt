@@ -1,7 +1,6 @@
 -- While the edges of a wall are flipped, one after another: the next one still is a strictly convex edge, and its diagonal fits where it did at first.
 use Rattle.std.proofs.Common.{◌≡◌, ℕ, suc, ◌+◌, ◌<◌, ◌≤◌, true, false, List, length, sym, ap, ◌∙◌, subst, arith}
 use Rattle.std.specs.Prelude.{slice_index}
-use Rattle.std.specs.List.{Contains}
 use Rattle.std.proofs.lemmas.Bool.{true≢false, false_from_ne_true}
 use Rattle.std.proofs.lemmas.List.Elements.{Contains-get_or}
 use Rattle.quad_field.specs.FieldNumber.{IsFieldNumber}
@@ -19,7 +18,7 @@ use Rattle.tri_core.proofs.CallerLemmas.{twin_inside, among_more, among_from, al
 use Rattle.hinge_form.specs.Triples.{Triple}
 use Rattle.hinge_form.specs.Walls.{IsWall}
 use Rattle.wall_cross.specs.Crossings.{AreAllFlipped, DiagonalsFit}
-use Rattle.wall_cross.proofs.AtOnce.{IsClear, clear_vector, clear_next_vector, clear_previous_vector, clear_twin}
+use Rattle.wall_cross.proofs.AtOnce.{IsClear, clear_next_vector, clear_previous_vector, clear_twin}
 use Rattle.wall_cross.proofs.Members.{place_of, listed, listed_inside, listed_fresh, wall_spread, first_spread, member_convex}
 use mathlib.Core.Logic.{inl, inr}
 

@@ -1,16 +1,16 @@
 -- What flips at all members of a set leave: the sides behind a member, and a triangulation where each member's quadrilateral is strictly convex.
-use Rattle.std.proofs.Common.{◌≡◌, ℕ, ◌*◌, ◌%◌, ◌<◌, ◌≤◌, Bool, true, false, IsTrue, List, length, sym, ap, ◌∙◌, subst, inl, inr, arith}
+use Rattle.std.proofs.Common.{◌≡◌, ℕ, ◌*◌, ◌%◌, ◌<◌, ◌≤◌, Bool, true, false, List, length, sym, ap, ◌∙◌, subst, inl, inr}
 use Rattle.std.proofs.lemmas.Bool.{cases_Bool}
 use Rattle.quad_field.specs.Quads.{quad_ops}
 use Rattle.quad_field.proofs.CallerLemmas.{quad_ring}
 use Rattle.plane.specs.Vectors.{vector_sum, opposite_vector}
 use Rattle.tri_core.specs.declared.half.Half.{Half}
 use Rattle.tri_core.specs.HalfEdges.{vector_at, twin_at, triangle_of, next_of, previous_of}
-use Rattle.tri_core.specs.Triangulation.{HasTriangles, IsTriangulation, IsTriangle, IsPaired, IsJoined, IsClosedUnderTwins, TurnsInto}
+use Rattle.tri_core.specs.Triangulation.{IsTriangulation, IsPaired, IsClosedUnderTwins, TurnsInto}
 use Rattle.tri_core.specs.Flips.{previous_of_twin}
 use Rattle.tri_core.specs.SeveralFlips.{IsSpread, number_after_all, AreFlipped}
 use Rattle.tri_core.proofs.CallerLemmas.{side_next, side_previous, next_next, previous_previous, next_previous, previous_next, next_inside, previous_inside, twin_inside}
-use Rattle.tri_core.proofs.CallerLemmas.{IsTripleAt, triple_at, triple_first, triple_along, triple_of, across, ComesFrom, comes_from, number_following, number_preceding, number_staying}
+use Rattle.tri_core.proofs.CallerLemmas.{IsTripleAt, triple_at, triple_first, triple_along, triple_of, across, comes_from, number_following, number_preceding, number_staying}
 
 module _ (d : ℕ) (halves : List Half) (valid : IsTriangulation d halves) (set : ℕ → Bool) (spread : IsSpread halves set) (later : List Half) (flips : AreFlipped d halves set later) where
   abbrev number : ℕ → ℕ

@@ -1,17 +1,17 @@
 -- Flips at all members of a set, and the same once more: the first triangulation again, with the two triangles of each member exchanged.
-use Rattle.std.proofs.Common.{◌≡◌, ◌⊎◌, ℕ, zero, suc, ◌<◌, ◌≤◌, ◌∷◌, [], Bool, true, false, List, length, sym, ap, ◌∙◌, subst, refl, inl, inr, arith}
-use Rattle.std.specs.Prelude.{pos, if◌then◌else◌, ◌||◌, slice_index}
+use Rattle.std.proofs.Common.{◌≡◌, ℕ, ◌<◌, Bool, true, false, List, length, sym, ap, ◌∙◌, subst, inl, inr}
+use Rattle.std.specs.Prelude.{if◌then◌else◌}
 use Rattle.std.proofs.lemmas.Bool.{cases_Bool, true≢false}
 use Rattle.rings.specs.Vectors.{vector_sum, opposite_vector}
 use Rattle.quad_field.specs.Quads.{quad_ops}
 use Rattle.tri_core.specs.declared.half.Half.{Half}
 use Rattle.tri_core.specs.HalfEdges.{vector_at, twin_at, next_of, previous_of}
 use Rattle.tri_core.specs.Triangulation.{IsTriangulation}
-use Rattle.tri_core.specs.SeveralFlips.{is_either, is_among, IsSpread, number_after_all, AreFlipped}
-use Rattle.tri_core.specs.Images.{IsImage, identity_matrix, AreTranslationEqual}
+use Rattle.tri_core.specs.SeveralFlips.{IsSpread, number_after_all, AreFlipped}
+use Rattle.tri_core.specs.Images.{AreTranslationEqual}
 use Rattle.tri_core.proofs.CallerLemmas.{next_next, previous_previous, next_previous, previous_next, next_inside, previous_inside, twin_inside, own_is}
 use Rattle.tri_core.proofs.CallerLemmas.{number_following, number_preceding, number_staying, translation_from}
-use Rattle.wall_cross.proofs.AtOnce.{still_inside, twin_member, member_stays, member_twin, next_goes, previous_goes, at_previous, at_next_of_twin}
+use Rattle.wall_cross.proofs.AtOnce.{member_stays, member_twin, next_goes, previous_goes, at_previous, at_next_of_twin}
 
 -- the half-edge that k corresponds to: a member its twin, and the other sides of a member's triangle those of the twin's
 abbrev pub turned_over : List Half → (ℕ → Bool) → ℕ → ℕ

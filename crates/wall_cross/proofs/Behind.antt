@@ -20,7 +20,7 @@ use Rattle.tri_core.specs.HalfEdges.{twin_at}
 use Rattle.tri_core.specs.Triangulation.{IsTriangulation}
 use Rattle.tri_core.specs.Flips.{IsEdge}
 use Rattle.tri_core.specs.SeveralFlips.{is_among, IsSpread}
-use Rattle.tri_core.proofs.CallerLemmas.{ComesFrom, comes_from, among_cases, among_from}
+use Rattle.tri_core.proofs.CallerLemmas.{comes_from, among_cases, among_from}
 use Rattle.hinge_form.specs.Triples.{Triple, times, HasNoDivisor}
 use Rattle.hinge_form.specs.Hinges.{hinge_value, full_triple, IsHalfPlanePoint, IsStrictAt}
 use Rattle.hinge_form.specs.Lines.{IsMultiple}
@@ -29,7 +29,7 @@ use Rattle.hinge_form.proofs.CallerLemmas.{value_of_triple, strict_somewhere}
 use Rattle.wall_cross.specs.Crossings.{AreAllFlipped}
 use Rattle.wall_cross.proofs.Apexes.{alike_positive}
 use Rattle.wall_cross.proofs.AtOnce.{member_twin, flipped_valid}
-use Rattle.wall_cross.proofs.Members.{place_of, listed, listed_inside, wall_spread, member_convex, member_zero, other_positive, on_line}
+use Rattle.wall_cross.proofs.Members.{place_of, listed, listed_inside, wall_spread, member_convex, member_zero, other_positive}
 use Rattle.wall_cross.proofs.Values.{member_value, member_triple, value_alike}
 
 -- ---- the opposite of a triple

@@ -8,10 +8,16 @@ use Rattle.tri_core.specs.Images.{identity_matrix, AreTranslationEqual}
 use Rattle.tri_core.proofs.CallerLemmas.{translation_same}
 use Rattle.wall_cross.specs.Crossings.{LiesBehind, LeadsIn, IsReached}
 use Rattle.wall_cross.proofs.Behind.{crossing_valid}
+use Rattle.wall_cross.proofs.Paths.{reached_behind}
 use Rattle.wall_cross.proofs.Crossed.{wall_again, crossed_back}
 use Rattle.wall_cross.proofs.CarriedImages.{translation_then_image}
 use Rattle.wall_cross.proofs.CarriedClasses.{cross_valid}
 use Rattle.wall_cross.proofs.CarriedReach.{wall_crossed, crossing_carried, reached_image, reached_valid}
+
+-- one path after another
+pub reached_through : (d : ℕ) (from between : List Half) → IsReached d from between → (n : ℕ) (to : List Half) → LeadsIn d between n to → IsReached d from to
+reached_through d from between reached zero to same = subst (IsReached d from) (sym same) reached
+reached_through d from between reached (suc n) to path = reached_behind d from path.0 to (reached_through d from between reached n path.0 path.1) path.2
 
 module _ (d : ℕ) (field : IsFieldNumber d) where
   -- translation-equal to what is translation-equal

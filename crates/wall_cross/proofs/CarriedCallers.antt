@@ -19,4 +19,4 @@ pub use Rattle.wall_cross.proofs.CarriedClasses.{cross_valid, cross_image, class
 pub use Rattle.wall_cross.proofs.CarriedReach.{wall_crossed, wall_carried, crossing_carried}
 -- ---- what is reached: triangulations, and it is carried; from behind a wall, and from what is reached, a path leads back
 pub use Rattle.wall_cross.proofs.CarriedReach.{reached_valid, reached_image}
-pub use Rattle.wall_cross.proofs.CarriedBack.{crossed_over, reached_back}
+pub use Rattle.wall_cross.proofs.CarriedBack.{crossed_over, reached_through, reached_back}

@@ -1,5 +1,5 @@
 -- What the bodies that cross a wall answer, and that crossing back leads back.
-use Rattle.std.proofs.Common.{◌≡◌, ℕ, zero, suc, ◌<◌, ◌≤◌, Bool, List, length, sym, ap, subst, inl, refl, arith}
+use Rattle.std.proofs.Common.{◌≡◌, ℕ, zero, suc, ◌<◌, Bool, List, length, subst, refl, arith}
 use Rattle.std.specs.Prelude.{◌||◌, slice_index, Result, Ok, Err, OnOk}
 use Rattle.quad_field.specs.FieldNumber.{IsFieldNumber}
 use Rattle.quad_field.specs.Quads.{quad_ops}

@@ -8,6 +8,8 @@ pub mod Behind
 pub mod Back
 pub mod Crossed
 pub mod Orders
+pub mod Paths
+pub mod CallerLemmas
 pub mod Pulled
 pub mod CarriedImages
 pub mod ValidImages
@@ -21,5 +23,5 @@ pub mod CarriedClasses
 pub mod CarriedLists
 pub mod CarriedExistence
 pub mod CarriedReach
-pub mod CarriedCallers
 pub mod CarriedBack
+pub mod CarriedCallers

@@ -10,7 +10,7 @@ use Rattle.quad_field.specs.Quads.{quad_ops, IsPositive}
 use Rattle.tri_core.specs.declared.half.Half.{Half}
 use Rattle.tri_core.specs.HalfEdges.{twin_at, next_of, previous_of}
 use Rattle.tri_core.specs.Triangulation.{IsTriangulation}
-use Rattle.tri_core.specs.Flips.{IsEdge, IsStrictlyConvex}
+use Rattle.tri_core.specs.Flips.{IsStrictlyConvex}
 use Rattle.tri_core.specs.SeveralFlips.{is_among, IsSpread}
 use Rattle.tri_core.proofs.CallerLemmas.{next_previous, next_inside, previous_inside, half_or_twin, among_cases, among_from, among_more, among_twin}
 use Rattle.hinge_form.specs.Triples.{Triple}

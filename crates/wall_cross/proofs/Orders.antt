@@ -11,9 +11,8 @@ use Rattle.tri_core.specs.declared.half.Half.{Half}
 use Rattle.tri_core.specs.HalfEdges.{twin_at, triangle_of}
 use Rattle.tri_core.specs.Triangulation.{IsTriangulation}
 use Rattle.tri_core.specs.SeveralFlips.{AfterFirst, is_among, IsSpread, AreFlipped}
-use Rattle.tri_core.proofs.CallerLemmas.{of_one_triangle, next_previous, previous_next, twin_inside, among_cases, among_from, all_first, flipped_once}
+use Rattle.tri_core.proofs.CallerLemmas.{of_one_triangle, twin_inside, among_cases, among_from, all_first, flipped_once}
 use Rattle.hinge_form.specs.Triples.{Triple}
-use Rattle.hinge_form.specs.Hinges.{full_triple}
 use Rattle.hinge_form.specs.Walls.{IsWall, IsEdgeOf}
 use Rattle.hinge_form.proofs.CallerLemmas.{edge_of_wall}
 use Rattle.wall_cross.specs.Crossings.{AreAllFlipped}

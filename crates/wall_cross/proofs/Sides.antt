@@ -5,9 +5,9 @@ use Rattle.rings.specs.Ring.{Ops, IsRing, var, expr}
 use Rattle.rings.specs.Order.{IsOrdered}
 use Rattle.rings.specs.Vectors.{Vector, opposite_vector}
 use Rattle.rings.specs.Forms.{det, value_at, three_row_determinant}
-use Rattle.rings.specs.Lines.{multiple, opposite_triple, IsPositiveMultiple}
+use Rattle.rings.specs.Lines.{opposite_triple, IsPositiveMultiple}
 use Rattle.rings.proofs.Solver.{identity}
-use Rattle.rings.proofs.Ordered.{factor, not_both_signs, whole_positive}
+use Rattle.rings.proofs.Ordered.{factor, not_both_signs}
 use Rattle.rings.proofs.Signs.{never_positive}
 use Rattle.rings.proofs.Multiples.{multiple_value, value_at_opposite}
 use Rattle.quad_field.specs.declared.quad.Quad.{Quad}

@@ -23,7 +23,7 @@ use Rattle.hinge_form.specs.Triples.{Triple}
 use Rattle.hinge_form.specs.Hinges.{hinge_value, hinge_c, full_triple}
 use Rattle.hinge_form.proofs.CallerLemmas.{value_of_triple}
 use Rattle.wall_cross.proofs.Apexes.{third, by_apexes, AreAlike, apexes_swapped, one_apex, outer_next, outer_previous, diagonal_value, far_apex, alike_after, apex_exchanged}
-use Rattle.wall_cross.proofs.AtOnce.{IsClear, clear_previous_vector, member_twin, at_previous, at_next, at_next_of_twin, at_twin, number_inside, still_inside}
+use Rattle.wall_cross.proofs.AtOnce.{clear_previous_vector, member_twin, at_previous, at_next, at_next_of_twin, at_twin, number_inside, still_inside}
 
 -- ---- the sides and apexes of a half-edge
 module _ (d : ℕ) (halves : List Half) (k : ℕ) (valid : IsTriangulation d halves) (below : k < length halves) where

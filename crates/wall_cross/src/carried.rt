@@ -155,6 +155,11 @@ pub fn reached_ones_are_carried()
         → (later_to : List Half) × IsReached d to later_to × IsImageBy d n m later later_to }
 {}
 
+/// What is reached from what is reached is reached.
+pub fn paths_join()
+    ensures { (d : ℕ) (from between to : List Half) → IsReached d from between → IsReached d between to → IsReached d from to }
+{}
+
 /// From what is reached something is reached that is translation-equal to where the path began.
 pub fn reached_ones_reach_back()
     ensures { (d : ℕ) (from to : List Half) → IsFieldNumber d → IsTriangulation d from → IsReached d from to

@@ -11,7 +11,8 @@ ghost use Rattle.hinge_form.specs.Walls.{IsWall};
 ghost use Rattle.wall_cross.specs.Crossings.{AreAllFlipped, Crosses, DiagonalsFit};
 ghost use Rattle.wall_cross.specs.declared.crossing.CrossFault.TheVariants.{Wide as WideFault, Memory as MemoryFault};
 
-use super::flips::{flip_wall, is_valid};
+use super::diagonals::is_valid;
+use super::flips::flip_wall;
 use hinge_form::Wall;
 use quad_field::{Field, Wide};
 use std::alloc::{AllocError, Global};
@@ -62,9 +63,9 @@ pub fn cross(alloc: Global, f: &Field, tri: &Tri, wall: &Wall) -> Result<Tri, Cr
     ensures fits { OnOk result (DiagonalsFit tri.now.field tri.now.halves wall.now.edges.items) }
     ensures wide { IsErrOf result WideFault → ¬ (DiagonalsFit tri.now.field tri.now.halves wall.now.edges.items) }
 {
-    let mut copy = tri.copy(alloc)?;
-    match cross_in_place(f, &mut copy, wall) {
-        Ok(()) => Ok(copy),
+    let mut crossed = tri.copy(alloc)?;
+    match cross_in_place(f, &mut crossed, wall) {
+        Ok(()) => Ok(crossed),
         Err(_) => Err(CrossFault::Wide),
     }
 }
@@ -83,9 +84,9 @@ pub fn cross_back(alloc: Global, f: &Field, tri: &Tri, wall: &Wall) -> Result<Tr
     ensures wide { IsErrOf result WideFault → ¬ (DiagonalsFit tri.now.field tri.now.halves wall.now.edges.items) }
 {
     is_valid(f, tri);
-    let mut copy = tri.copy(alloc)?;
-    match flip_wall(f, &mut copy, wall.edges.as_slice()) {
-        Ok(()) => Ok(copy),
+    let mut back = tri.copy(alloc)?;
+    match flip_wall(f, &mut back, wall.edges.as_slice()) {
+        Ok(()) => Ok(back),
         Err(_) => Err(CrossFault::Wide),
     }
 }

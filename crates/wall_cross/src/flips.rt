@@ -1,39 +1,15 @@
-//! The flips of a crossing: all new diagonals are looked at before the first flip.
+//! The flips of a crossing: either all edges of a wall are flipped, or none.
 
-ghost use Rattle.std.specs.Prelude.{◌≡◌, ◌↔◌, ◌<◌, ℕ, length, slice_index, IsTrue, IsOk, OnOk, IfErr};
-ghost use Rattle.quad_field.specs.FieldNumber.{IsFieldNumber};
+ghost use Rattle.std.specs.Prelude.{◌≡◌, ◌↔◌, IsOk, OnOk, IfErr};
 ghost use Rattle.quad_field.specs.declared.formula.Formula.TheVariants.{F12};
-ghost use Rattle.tri_core.specs.Triangulation.{IsTriangulation};
 ghost use Rattle.tri_core.specs.Flips.{IsEdge, IsStrictlyConvex, IsFlip, DiagonalFits};
 ghost use Rattle.hinge_form.specs.Triples.{Triple};
 ghost use Rattle.hinge_form.specs.Walls.{IsWall};
 ghost use Rattle.wall_cross.specs.Crossings.{AreAllFlipped, DiagonalsFit};
 
+use super::diagonals::{diagonals_fit, is_valid};
 use quad_field::{Field, Formula, Wide};
 use tri_core::Tri;
-
-/// Does nothing: whoever holds a field and a triangulation knows that they are one.
-pub fn is_valid(f: &Field, tri: &Tri)
-    ensures number { IsFieldNumber f.now }
-    ensures valid { IsTriangulation tri.now.field tri.now.halves }
-{
-    f.number();
-    tri.triangles();
-}
-
-/// Whether the new diagonals at these half-edges fit.
-fn diagonals_fit(f: &Field, tri: &Tri, edges: &[u32]) -> bool
-    requires field { f.now ≡ tri.now.field }
-    requires inside { (i : ℕ) → i < length edges.now → slice_index edges.now i < length tri.now.halves }
-    ensures { IsTrue result ↔ DiagonalsFit tri.now.field tri.now.halves edges.now }
-{
-    for i in 0..edges.len() {
-        if !tri.diagonal_fits(f, edges[i]) {
-            return false;
-        }
-    }
-    true
-}
 
 /// Flips an edge whose new diagonal fits.
 fn flip_one(f: &Field, tri: &mut Tri, edge: u32)

@@ -4,6 +4,7 @@
 
 pub mod carried;
 mod crossing;
+mod diagonals;
 mod flips;
 pub mod laws;
 

@@ -1,6 +1,6 @@
 use Rattle.std.proofs.Common.{◌↔◌, ℕ, List, IsOk, sym, subst}
 use Rattle.quad_field.specs.FieldNumber.{IsFieldNumber}
-use Rattle.hinge_form.specs.Triples.{Triple, of_form}
+use Rattle.hinge_form.specs.Triples.{of_form}
 use Rattle.hinge_form.specs.Walls.{IsWall}
 use Rattle.wall_cross.specs.Crossings.{AreAllFlipped, DiagonalsFit}
 use Rattle.wall_cross.proofs.Behind.{strict_behind}

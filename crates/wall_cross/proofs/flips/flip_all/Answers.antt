@@ -1,4 +1,4 @@
-use Rattle.std.proofs.Common.{◌≡◌, ◌∙◌, ℕ, length, refl, sym, subst, arith}
+use Rattle.std.proofs.Common.{◌≡◌, ◌∙◌, ℕ, ◌<◌, length, refl, sym, subst, arith}
 use Rattle.std.specs.Prelude.{slice_index}
 use Rattle.quad_field.specs.FieldNumber.{IsFieldNumber}
 use Rattle.tri_core.specs.Flips.{IsStrictlyConvex, DiagonalFits}
@@ -15,25 +15,28 @@ flip_one-requires-clause-field c = c.requires.field ∙ sym c.loop-i.invariant.f
 pub flip_one-requires-clause-edge : goal.flip_one-requires-clause-edge
 flip_one-requires-clause-edge c =
     let d = c.args.tri.now.field in
+    let less : c.loop-i.i < length c.args.edges.now = omega (arith, c.loop-i-test.true) in
     let field : IsFieldNumber d = subst IsFieldNumber c.requires.field c.is_valid.ensures.number in
     next_edge d field c.args.tri.now.halves c.is_valid.ensures.valid c.requires.wall.0 c.args.edges.now c.requires.wall.1
-    c.loop-i.i c.loop-i.tri.halves c.loop-i-test.true c.loop-i.invariant.flipped
+    c.loop-i.i c.loop-i.tri.halves less c.loop-i.invariant.flipped
 
 pub flip_one-requires-clause-convex : goal.flip_one-requires-clause-convex
 flip_one-requires-clause-convex c =
     let d = c.args.tri.now.field in
+    let less : c.loop-i.i < length c.args.edges.now = omega (arith, c.loop-i-test.true) in
     let field : IsFieldNumber d = subst IsFieldNumber c.requires.field c.is_valid.ensures.number in
     subst (λ (x : ℕ). IsStrictlyConvex x c.loop-i.tri.halves (slice_index c.args.edges.now c.loop-i.i)) (sym c.loop-i.invariant.field)
     (next_convex d field c.args.tri.now.halves c.is_valid.ensures.valid c.requires.wall.0 c.args.edges.now c.requires.wall.1
-    c.loop-i.i c.loop-i.tri.halves c.loop-i-test.true c.loop-i.invariant.flipped)
+    c.loop-i.i c.loop-i.tri.halves less c.loop-i.invariant.flipped)
 
 pub flip_one-requires-clause-fits : goal.flip_one-requires-clause-fits
 flip_one-requires-clause-fits c =
     let d = c.args.tri.now.field in
+    let less : c.loop-i.i < length c.args.edges.now = omega (arith, c.loop-i-test.true) in
     let field : IsFieldNumber d = subst IsFieldNumber c.requires.field c.is_valid.ensures.number in
     subst (λ (x : ℕ). DiagonalFits x c.loop-i.tri.halves (slice_index c.args.edges.now c.loop-i.i)) (sym c.loop-i.invariant.field)
     (next_fits d field c.args.tri.now.halves c.is_valid.ensures.valid c.requires.wall.0 c.args.edges.now c.requires.wall.1
-    c.loop-i.i c.loop-i.tri.halves c.loop-i-test.true c.loop-i.invariant.flipped c.requires.fits)
+    c.loop-i.i c.loop-i.tri.halves less c.loop-i.invariant.flipped c.requires.fits)
 
 pub loop-i-preserved : goal.loop-i-preserved
 loop-i-preserved c = record {

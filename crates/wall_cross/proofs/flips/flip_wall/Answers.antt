@@ -1,4 +1,4 @@
-use Rattle.std.proofs.Common.{ℕ, refl, subst}
+use Rattle.std.proofs.Common.{refl, subst}
 use Rattle.quad_field.specs.FieldNumber.{IsFieldNumber}
 use Rattle.wall_cross.proofs.Members.{listed_inside}
 use Rattle.wall_cross.proofs.flips.flip_wall.Goals as goal
