@@ -23,6 +23,8 @@ pub use Rattle.hinge_form.proofs.Multiples.{divisor_some, reduced_factor}
 -- a triple that isn't zero is reduced in one way
 pub use Rattle.hinge_form.proofs.Cofactors.{one_reduced}
 -- ---- places
+-- a vector into which another turns has a positive height at a half-plane point
+pub use Rattle.hinge_form.proofs.Rises.{length_turned}
 -- the place of a base point is a half-plane point
 pub use Rattle.hinge_form.proofs.Points.{place_inside}
 -- ---- hinges

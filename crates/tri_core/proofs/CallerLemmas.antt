@@ -26,7 +26,7 @@ pub use Rattle.tri_core.proofs.Unique.{one_flip}
 pub use Rattle.tri_core.proofs.Flipped.{triangulation-flip}
 -- ---- several flips: where half-edges go and come from, that there is one result, and that flips one after another are flips at once
 pub use Rattle.tri_core.proofs.SeveralFlips.{number_following, number_preceding, number_staying, ComesFrom, comes_from, flipped_once}
-pub use Rattle.tri_core.proofs.Folds.{among_more, among_cases, among_from, among_twin, one_more, all_first}
+pub use Rattle.tri_core.proofs.Folds.{bool_equal, among_more, among_cases, among_from, among_twin, one_more, all_first}
 -- ---- images
 pub use Rattle.tri_core.proofs.Images.{inverse_swapped, inverse_composed, forth_inside, back_inside, forth_back, forth_injective}
 pub use Rattle.tri_core.proofs.Images.{previous_kept, frame_carried, image_turns_left, translation_vectors, translation_from, translation_same}
