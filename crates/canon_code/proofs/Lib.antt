@@ -18,3 +18,5 @@ pub mod Exists
 pub mod Framed
 pub mod ScaleExists
 pub mod CodeExists
+pub mod TextReadings
+pub mod Listings

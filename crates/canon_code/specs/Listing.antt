@@ -11,8 +11,10 @@ abbrev pub IsTwinNumber : ℤ → Type 0
 IsTwinNumber z = (n : ℕ) × (z ≡ pos n) × (n < 768)
 
 -- so may the numbers of the three twins of triangle t
-abbrev pub HasTwins : List ℤ → ℕ → Type 0
-HasTwins numbers t = (j : ℕ) → j < 3 → IsTwinNumber (number_at numbers (2 + 11 * t + (8 + j)))
+pub record HasTwins (numbers : List ℤ) (t : ℕ) : Type 0 where
+  pub first : IsTwinNumber (number_at numbers (2 + 11 * t + 8))
+  pub second : IsTwinNumber (number_at numbers (2 + 11 * t + 9))
+  pub third : IsTwinNumber (number_at numbers (2 + 11 * t + 10))
 
 -- the third vector of triangle t fits
 abbrev pub HasThird : List ℤ → ℕ → Type 0

@@ -1,11 +1,10 @@
 //! The text of a code, and its numbers read from bytes.
 
-ghost use Rattle.std.specs.Prelude.{◌≡◌, ◌≢◌, ℤ, ◌++◌, IfOk, IfErr, OnOk};
+ghost use Rattle.std.specs.Prelude.{◌≡◌, ◌≢◌, ℤ, ◌++◌, None, IfOk, IfErr, IfSome, OnOk};
 ghost use Rattle.plane.specs.Spelling.{whole_text};
 ghost use Rattle.quad_field.specs.Width.{FitsI128};
 ghost use Rattle.canon_code.specs.CodeText.{spaced_text, numbers_text, Lists};
 ghost use Rattle.canon_code.specs.TextReading.{FrontOf, IsTextFault};
-ghost use Rattle.canon_code.specs.declared.fault.CodeFault.TheVariants.{Form};
 
 use super::{Code, CodeFault};
 use memchr::memchr;
@@ -45,16 +44,15 @@ fn front(bytes: &[u8]) -> (&[u8], &[u8])
     }
 }
 
-/// The whole number of 128 bits that the word spells.
-fn number_of(word: &[u8]) -> Result<i128, CodeFault>
-    ensures number { IfOk result (λ n. (word.now ≡ whole_text n) × FitsI128 n) }
-    ensures form { IfErr result (λ fault. fault ≡ Form) }
-    ensures none { IfErr result (λ fault. (n : ℤ) → FitsI128 n → word.now ≢ whole_text n) }
+/// The whole number of 128 bits that a word spells, none where it spells none.
+fn number_of(word: &[u8]) -> Option<i128>
+    ensures number { IfSome result (λ n. (word.now ≡ whole_text n) × FitsI128 n) }
+    ensures none { result ≡ None → (n : ℤ) → FitsI128 n → word.now ≢ whole_text n }
 {
     match read_whole(word) {
-        WholeWord::Value(n) => Ok(n),
-        WholeWord::Large => Err(CodeFault::Form),
-        WholeWord::Not => Err(CodeFault::Form),
+        WholeWord::Value(n) => Some(n),
+        WholeWord::Large => None,
+        WholeWord::Not => None,
     }
 }
 
@@ -64,11 +62,17 @@ pub(crate) fn numbers_of(alloc: Global, text: &[u8]) -> Result<Vec<i128>, CodeFa
     ensures fault { IfErr result (IsTextFault text.now) }
 {
     let (word, mut rest) = front(text);
+    let Some(first) = number_of(word) else {
+        return Err(CodeFault::Form);
+    };
     let mut numbers = Vec::new(alloc);
-    numbers.push(number_of(word)?)?;
+    numbers.push(first)?;
     'numbers: while let Some(behind) = rest.strip_prefix(b" ") {
         let (word, after) = front(behind);
-        numbers.push(number_of(word)?)?;
+        let Some(number) = number_of(word) else {
+            return Err(CodeFault::Form);
+        };
+        numbers.push(number)?;
         rest = after;
     }
     Ok(numbers)

@@ -1,6 +1,6 @@
 //! The canonical triangulation of a code.
 
-ghost use Rattle.std.specs.Prelude.{◌≡◌, ◌↔◌, ℕ, pos, ◌+◌, ◌*◌, ◌<◌, ◌≤◌, ◌+ℤ◌, neg_ℤ, length, unsigned_abs, IfOk, OnOk, IfErr, IfSome, SomeIff, None};
+ghost use Rattle.std.specs.Prelude.{◌≡◌, ◌↔◌, ℕ, pos, ◌+◌, ◌*◌, ◌<◌, ◌≤◌, ◌+ℤ◌, neg_ℤ, ◌∷◌, [], length, unsigned_abs, IfOk, OnOk, IfErr, IfSome, SomeIff, None};
 ghost use Rattle.quad_field.specs.Quads.{quad_ops};
 ghost use Rattle.quad_field.specs.Width.{FitsI128, PartsFit};
 ghost use Rattle.plane.specs.Vectors.{vector, vector_sum, opposite_vector};
@@ -87,10 +87,12 @@ fn vector_at(numbers: &[i128], i: usize) -> Vec2
     }
 }
 
-/// The number of a twin, none where that isn't from 0 to 767.
-fn twin_of(n: i128) -> Option<u32>
-    ensures { SomeIff result (IsTwinNumber n) (unsigned_abs n) }
+/// The number of a twin at place i, none where it isn't from 0 to 767.
+fn twin_number(numbers: &[i128], i: usize) -> Option<u32>
+    requires { i < length numbers.now }
+    ensures { SomeIff result (IsTwinNumber (number_at numbers.now i)) (unsigned_abs (number_at numbers.now i)) }
 {
+    let n = numbers[i];
     if 0 <= n && n < 768 {
         Some(n as u32)
     } else {
@@ -98,20 +100,18 @@ fn twin_of(n: i128) -> Option<u32>
     }
 }
 
-/// The twins of triangle t.
-fn twins_at(numbers: &[i128], t: u32) -> Option<(u32, u32, u32)>
+/// The numbers of the three twins of triangle t, none where one isn't from 0 to 767.
+fn twins_at(numbers: &[i128], t: u32) -> Option<[u32; 3]>
     requires inside { 2 + 11 * t + 10 < length numbers.now }
     ensures twins { IfSome result (λ twins. HasTwins numbers.now t) }
-    ensures first { IfSome result (λ twins. twins.0 ≡ unsigned_abs (number_at numbers.now (2 + 11 * t + 8))) }
-    ensures second { IfSome result (λ twins. twins.1 ≡ unsigned_abs (number_at numbers.now (2 + 11 * t + 9))) }
-    ensures third { IfSome result (λ twins. twins.2 ≡ unsigned_abs (number_at numbers.now (2 + 11 * t + 10))) }
+    ensures numbers { IfSome result (λ twins. twins ≡ unsigned_abs (number_at numbers.now (2 + 11 * t + 8)) ∷ unsigned_abs (number_at numbers.now (2 + 11 * t + 9)) ∷ unsigned_abs (number_at numbers.now (2 + 11 * t + 10)) ∷ []) }
     ensures none { result ≡ None → ¬ (HasTwins numbers.now t) }
 {
-    let place = 2 + 11 * t as usize + 8;
-    let first = twin_of(numbers[place])?;
-    let second = twin_of(numbers[place + 1])?;
-    let third = twin_of(numbers[place + 2])?;
-    Some((first, second, third))
+    let place = 2 + 11 * t as usize;
+    let first = twin_number(numbers, place + 8)?;
+    let second = twin_number(numbers, place + 9)?;
+    let third = twin_number(numbers, place + 10)?;
+    Some([first, second, third])
 }
 
 /// Appends the half-edges of triangle t.
@@ -122,7 +122,7 @@ fn push_triangle(halves: &mut Vec<Half>, numbers: &[i128], t: u32) -> Result<(),
     ensures twin { IfErr result (λ fault. fault ≡ Twin → ¬ (HasTwins numbers.now t)) }
     ensures third { IfErr result (λ fault. fault ≡ Third → ¬ (HasThird numbers.now t)) }
 {
-    let (a, b, c) = twins_at(numbers, t).ok_or(Unlisted::Twin)?;
+    let [a, b, c] = twins_at(numbers, t).ok_or(Unlisted::Twin)?;
     let place = 2 + 11 * t as usize;
     let u = vector_at(numbers, place);
     let v = vector_at(numbers, place + 4);
