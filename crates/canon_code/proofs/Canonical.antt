@@ -22,7 +22,7 @@ use Rattle.canon_code.proofs.Frames.{written_maps, written_once, written_det, wr
 use Rattle.canon_code.proofs.Rows.{length-rows}
 use Rattle.canon_code.proofs.Serials.{turn_at, thrice, serial_carried_back}
 use Rattle.canon_code.proofs.Reconstructed.{written_third_at, next_number}
-use Rattle.canon_code.proofs.Searches.{joined_from}
+use Rattle.tri_core.proofs.CallerLemmas.{joined_from}
 use Rattle.rings.proofs.Ordered.{factor}
 
 -- number i of triangle t stands at place 11t + i of the rows
@@ -45,7 +45,7 @@ two_further a b xs i = let e : 2 + i ≡ suc (suc i) = omega arith in ap (λ k. 
 
 module _ (w : ℕ → Vector Quad) (f : ℕ → ℕ) (n m : ℕ) (code : List ℤ) (is : code ≡ pos n ∷ pos m ∷ rows w f n) where
   -- number i of triangle t in the code
-  in_code : (t i : ℕ) → t < n → i < 11 → number_at code (2 + 11 * t + i) ≡ get_or (row w f t) i (pos 0)
+  pub in_code : (t i : ℕ) → t < n → i < 11 → number_at code (2 + 11 * t + i) ≡ get_or (row w f t) i (pos 0)
   in_code t i less small =
       let e : 2 + 11 * t + i ≡ 2 + (11 * t + i) = omega arith in
       ap (λ k. get_or code k (pos 0)) e ∙ ap (λ c. get_or c (2 + (11 * t + i)) (pos 0)) is ∙ two_further (pos n) (pos m) (rows w f n) (11 * t + i) ∙ row_at w f n t i less small
@@ -227,13 +227,15 @@ module _ (d : ℕ) (field : IsFieldNumber d) (halves : List Half) (h : ℕ) (cod
       let t_is : triangle_of (3 * t) ≡ t = omega arith in
       let zero_is : triangle_of 0 ≡ 0 = omega arith in
       subst (λ k. IsTrue (set k)) (same_triangle (own.place (3 * t)) place_in ∙ ap triangle_of (own.numbering.each_once.back_forth (3 * t) less) ∙ t_is)
-      (joined_from d halves (λ s. set (triangle_of (own.number (3 * s)))) (triangle_of (own.place 0)) (triangle_of (own.place (3 * t))) valid (omega (arith, first_in)) (omega (arith, place_in))
-      (subst (λ k. IsTrue (set k)) (sym (same_triangle (own.place 0) first_in ∙ ap triangle_of (own.numbering.each_once.back_forth 0 some) ∙ zero_is)) start)
+      (joined_from d halves valid (λ s. set (triangle_of (own.number (3 * s))))
       (λ y inside old.
       let k_in : own.number y < length halves = own.numbering.each_once.back_inside y inside in
       let back : own.place (own.number y) ≡ y = own.numbering.each_once.forth_back y inside in
       subst (λ k. IsTrue (set k)) (ap triangle_of (twin_is (own.number y) k_in ∙ ap (λ z. own.number (twin_at halves z)) back) ∙ sym (same_triangle (twin_at halves y) (valid.paired y inside).0))
-      (closed (own.number y) (subst (λ n. own.number y < n) (sym as_many) k_in) (subst (λ k. IsTrue (set k)) (same_triangle y inside) old))))
+      (closed (own.number y) (subst (λ n. own.number y < n) (sym as_many) k_in) (subst (λ k. IsTrue (set k)) (same_triangle y inside) old)))
+      (triangle_of (own.place 0)) (omega (arith, first_in))
+      (subst (λ k. IsTrue (set k)) (sym (same_triangle (own.place 0) first_in ∙ ap triangle_of (own.numbering.each_once.back_forth 0 some) ∙ zero_is)) start)
+      (triangle_of (own.place (3 * t))) (omega (arith, place_in)))
 
   -- the canonical triangulation is a triangulation
   pub canonical_valid : IsTriangulation d (canonical d code)

@@ -20,3 +20,4 @@ pub mod ScaleExists
 pub mod CodeExists
 pub mod TextReadings
 pub mod Listings
+pub mod Refused

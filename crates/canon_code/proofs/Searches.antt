@@ -6,6 +6,7 @@ use Rattle.tri_core.specs.HalfEdges.{twin_at, next_of, triangle_of}
 use Rattle.tri_core.specs.Triangulation.{IsTriangle, IsTriangulation, IsClosedUnderTwins}
 use Rattle.canon_code.specs.Numberings.{IsNumbering, IsFoundFrom}
 use Rattle.canon_code.specs.Search.{IsSearch, IsAppended}
+use Rattle.tri_core.proofs.CallerLemmas.{joined_from}
 use Rattle.rings.proofs.Pigeonhole.{repeats, Repeats}
 
 -- an injection of the numbers below m into those below n
@@ -182,26 +183,6 @@ module _ (halves : List Half) (h : ℕ) (place number : ℕ → ℕ) (size looke
         found = found';
       }
 
--- a closed set of triangles with some triangle has all of them
-pub joined_from : (d : ℕ) (halves : List Half) (set : ℕ → Bool) (s t : ℕ) → IsTriangulation d halves → IsTriangle halves s → IsTriangle halves t → IsTrue (set s) → IsClosedUnderTwins halves set → IsTrue (set t)
-joined_from d halves set s t valid is_s is_t own closed = go (set 0) refl
-  where
-    go : (b : Bool) → set 0 ≡ b → IsTrue (set t)
-    go true e = valid.joined t is_t set e closed
-    go false e =
-        let others : IsTrue (not (set s)) = valid.joined s is_s (λ k. not (set k)) (ap not e) (λ h inside out. outside h inside out (set (triangle_of (twin_at halves h))) refl) in
-        clash (ap not own) others
-      where
-        clash : {X : Type 0} → not (set s) ≡ false → not (set s) ≡ true → X
-        clash p q = let e : false ≡ true = sym p ∙ q in cc
-
-        outside : (h : ℕ) → h < length halves → IsTrue (not (set (triangle_of h))) → (b : Bool) → set (triangle_of (twin_at halves h)) ≡ b → IsTrue (not (set (triangle_of (twin_at halves h))))
-        outside h inside out false e = ap not e
-        outside h inside out true e =
-            let back : IsTrue (set (triangle_of (twin_at halves (twin_at halves h)))) = closed (twin_at halves h) (valid.paired h inside).0 e in
-            let here : IsTrue (set (triangle_of h)) = ap (λ k. set (triangle_of k)) (sym (valid.paired h inside).1) ∙ back in
-            let never : false ≡ true = sym (ap not here) ∙ out in cc
-
 module _ (d : ℕ) (halves : List Half) (h : ℕ) (place number : ℕ → ℕ) (size : ℕ) (valid : IsTriangulation d halves) (s : IsSearch halves h place number size size) (some : 0 < size) where
   -- the triangle of a half-edge with a number
   first_numbered : (x : ℕ) → x < length halves → number x < size → number (3 * triangle_of x) < size
@@ -236,12 +217,14 @@ module _ (d : ℕ) (halves : List Half) (h : ℕ) (place number : ℕ → ℕ) (
   all_numbered x inside =
       from_first x inside
       (ltb-true (number (3 * triangle_of x)) size
-      (joined_from d halves (λ t. ltb (number (3 * t)) size) (triangle_of (place 0)) (triangle_of x) valid (omega (arith, s.inside 0 some)) (omega arith)
-      (lt-ltb (number (3 * triangle_of (place 0))) size (first_numbered (place 0) (s.inside 0 some) (subst (λ n. n < size) (sym (s.back 0 some)) some)))
+      (joined_from d halves valid (λ t. ltb (number (3 * t)) size)
       (λ y in_y own.
       let numbered : number y < size = from_first y in_y (ltb-true (number (3 * triangle_of y)) size own) in
       let twin : number (twin_at halves y) < size = subst (λ z. number (twin_at halves z) < size) (s.forth y in_y numbered) (s.seen (number y) numbered) in
-      lt-ltb (number (3 * triangle_of (twin_at halves y))) size (first_numbered (twin_at halves y) (valid.paired y in_y).0 twin))))
+      lt-ltb (number (3 * triangle_of (twin_at halves y))) size (first_numbered (twin_at halves y) (valid.paired y in_y).0 twin))
+      (triangle_of (place 0)) (omega (arith, s.inside 0 some))
+      (lt-ltb (number (3 * triangle_of (place 0))) size (first_numbered (place 0) (s.inside 0 some) (subst (λ n. n < size) (sym (s.back 0 some)) some)))
+      (triangle_of x) (omega arith)))
 
   pub size_is : size ≡ length halves
   size_is =

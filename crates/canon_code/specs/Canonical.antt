@@ -1,7 +1,5 @@
 -- The canonical triangulation of a code, and the frame of a start.
-use Rattle.std.specs.Prelude.{◌≡◌, ℕ, ℤ, zero, suc, pos, ◌+◌, ◌*◌, ◌/◌, ◌%◌, ◌<◌, ◌<ℤ◌, length, List, [], ◌∷◌, map, get_or, unsigned_abs}
-use Prim.Native.Nat.{◌∣◌}
-use Rattle.quad_field.specs.Content.{DividesAll, IsCancelled}
+use Rattle.std.specs.Prelude.{◌≡◌, ℕ, ℤ, zero, suc, pos, ◌+◌, ◌*◌, ◌/◌, ◌%◌, ◌<◌, length, List, map, get_or, unsigned_abs}
 use Rattle.std.specs.List.{range_with_len}
 use Rattle.quad_field.specs.Quads.{quad, quad_ops}
 use Rattle.quad_field.specs.declared.quad.Quad.{Quad}
@@ -46,20 +44,6 @@ scale_of code = unsigned_abs (number_at code 1)
 -- the frame of start h: the matrix with its vector and the next as columns, over the scale
 abbrev pub frame : List Half → ℕ → Matrix Quad
 frame halves h = let e = vector_at halves h in let g = vector_at halves (next_of h) in (e.0, g.0, e.1, g.1)
-
--- what is read past the end of a list; no definition asks it there
-abbrev pub no_entry : Quad
-no_entry = quad (pos 0) (pos 0)
-
--- the entries of a matrix as its rows
-abbrev pub matrix_of : List Quad → Matrix Quad
-matrix_of n = (get_or n 0 no_entry, get_or n 1 no_entry, get_or n 2 no_entry, get_or n 3 no_entry)
-
--- the matrix n/den in lowest terms is the frame of start h over the scale
-pub record IsFrame (halves : List Half) (h : ℕ) (scale : ℤ) (n : List Quad) (den : ℤ) : Type 0 where
-  pub same : let e = vector_at halves h in let g = vector_at halves (next_of h) in IsCancelled (e.0 ∷ g.0 ∷ e.1 ∷ g.1 ∷ []) scale n den
-  pub positive : pos 0 <ℤ den
-  pub alone : (k : ℕ) → DividesAll k n → k ∣ unsigned_abs den → k ≡ 1
 
 -- both parts of both coordinates fit
 abbrev pub PairFits : Vector Quad → Type 0

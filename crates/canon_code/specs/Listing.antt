@@ -1,6 +1,8 @@
 -- For private contracts alone: half-edges made of numbers.
 use Rattle.std.specs.Prelude.{◌≡◌, ℕ, ℤ, pos, ◌+◌, ◌*◌, ◌<◌, List, [], ◌∷◌, ◌++◌, ⊤}
 use Rattle.tri_core.specs.declared.half.Half.{Half}
+use Rattle.tri_core.specs.declared.tri.BadTri.{BadTri}
+use Rattle.tri_core.specs.declared.tri.BadTri.TheVariants as bad_tri
 use Rattle.canon_code.specs.declared.fault.CodeFault.{CodeFault}
 use Rattle.canon_code.specs.declared.fault.CodeFault.TheVariants.{Form, NotCode, Wide, Memory}
 use Rattle.canon_code.specs.Canonical.{number_at, side_from, canonical_half, PairFits}
@@ -31,3 +33,9 @@ IsListingFault d numbers Form = ⊥
 IsListingFault d numbers NotCode = ¬ (IsCodeOver d numbers)
 IsListingFault d numbers (Wide formula) = IsWideCause d numbers formula
 IsListingFault d numbers Memory = ⊤
+
+-- the refusal of numbers for that of their half-edges
+abbrev pub IsFaultOf : BadTri → CodeFault → Type 0
+IsFaultOf (bad_tri.Wide formula) fault = fault ≡ Wide formula
+IsFaultOf bad_tri.Memory fault = fault ≡ Memory
+IsFaultOf bad fault = fault ≡ NotCode

@@ -1,10 +1,9 @@
 //! The code of a triangulation, with its starts.
 
 ghost use Rattle.std.specs.Prelude.{◌≡◌, ℕ, ℤ, ◌+◌, ◌<◌, ◌≤◌, ◌<ℤ◌, pos, ◌∷◌, ◌++◌, [], length, get_or, slice_get, Some, unsigned_abs, IfOk, OnOk, IfErr};
-ghost use Prim.Native.Nat.{◌∣◌};
-ghost use Rattle.quad_field.specs.Content.{DividesAll};
 ghost use Rattle.tri_core.specs.Images.{IsImageBy, CarriesFrame};
-ghost use Rattle.canon_code.specs.Canonical.{canonical, matrix_of, ThirdVectorsFit, IsMade};
+ghost use Rattle.canon_code.specs.Canonical.{canonical, frame, ThirdVectorsFit, IsMade};
+ghost use Rattle.plane.specs.Matrices.{IsReducedTo};
 ghost use Rattle.std.specs.Ordering.{int_cmp};
 ghost use Rattle.std.specs.Cmp.Lexicographic.{slice_cmp};
 ghost use Rattle.std.specs.declared.cmp.Ordering.TheVariants.{Less, Equal, Greater};
@@ -16,9 +15,9 @@ ghost use Rattle.canon_code.specs.Least.{IsLeastTo};
 ghost use Rattle.canon_code.specs.FrameWidth.{HasWideFrame};
 ghost use Rattle.canon_code.specs.declared.fault.CanonFault.TheVariants.{Wide};
 
-use super::matrix::frame_matrix;
 use super::serial::serial_at;
-use super::{CanonFault, Code, Mat2};
+use super::{CanonFault, Code};
+use plane::Mat2;
 use quad_field::Field;
 use std::alloc::{AllocError, Global};
 use std::cmp::Ordering;
@@ -99,16 +98,26 @@ pub struct Canon {
     pub starts: Vec<u32>,
 }
 
+/// The frame of start h over a scale.
+fn frame_at(tri: &Tri, h: u32, scale: i128) -> Mat2
+    requires half { h < length tri.now.halves }
+    requires positive { pos 0 <ℤ scale }
+    ensures { IsReducedTo (frame tri.now.halves h) scale result }
+{
+    let _count = tri.triangles();
+    let e = tri.half(h).vec;
+    let g = tri.half(Tri::next(h)).vec;
+    Mat2::reduced([e.s, g.s, e.t, g.t], scale)
+}
+
 /// The code of a triangulation. `frame` takes the canonical triangulation to `tri`, half-edge 0 to `start`.
 pub fn canon_of(alloc: Global, f: &Field, tri: &Tri) -> Result<Canon, CanonFault>
     requires { f.now ≡ tri.now.field }
     ensures code { IfOk result (λ c. IsCode f.now tri.now.halves c.code) }
     ensures starts { IfOk result (λ c. AreStarts f.now tri.now.halves c.code c.starts.items) }
     ensures start { IfOk result (λ c. slice_get c.starts.items 0 ≡ Some c.start) }
-    ensures frame { IfOk result (λ c. CarriesFrame f.now (matrix_of c.frame.n) (unsigned_abs c.frame.den) (canonical f.now c.code) 0 tri.now.halves c.start) }
-    ensures image { IfOk result (λ c. IsImageBy f.now (matrix_of c.frame.n) (unsigned_abs c.frame.den) (canonical f.now c.code) tri.now.halves) }
-    ensures positive { IfOk result (λ c. pos 0 <ℤ c.frame.den) }
-    ensures lowest { IfOk result (λ c. (k : ℕ) → DividesAll k c.frame.n → k ∣ unsigned_abs c.frame.den → k ≡ 1) }
+    ensures frame { IfOk result (λ c. CarriesFrame f.now c.frame.rows c.frame.denominator (canonical f.now c.code) 0 tri.now.halves c.start) }
+    ensures image { IfOk result (λ c. IsImageBy f.now c.frame.rows c.frame.denominator (canonical f.now c.code) tri.now.halves) }
     ensures made { IfOk result (λ c. IsMade f.now c.code) }
     ensures wide { IfErr result (λ fault. fault ≡ Wide → HasWideFrame f.now tri.now.halves) }
 {
@@ -119,7 +128,7 @@ pub fn canon_of(alloc: Global, f: &Field, tri: &Tri) -> Result<Canon, CanonFault
         Err(fault) => return Err(fault),
     };
     let start = best.starts[0];
-    let frame = frame_matrix(tri, start, best.serial[1]);
+    let frame = frame_at(tri, start, best.serial[1]);
     Ok(Canon {
         code: Code::new(best.serial),
         frame,

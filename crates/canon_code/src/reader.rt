@@ -1,33 +1,32 @@
 //! Reading a code.
 
-ghost use Rattle.std.specs.Prelude.{◌≡◌, ◌⊎◌, ℤ, List, IfOk, OnOk, IfErr, SomeIff, MatchResult, unsigned_abs};
+ghost use Rattle.std.specs.Prelude.{◌≡◌, ◌⊎◌, ℤ, List, IfOk, OnOk, IfErr, MatchResult};
 ghost use Rattle.canon_code.specs.declared.fault.CodeFault.TheVariants.{Form, NotCode, Memory};
-ghost use Rattle.canon_code.specs.Canonical.{number_at, canonical, IsMade};
+ghost use Rattle.canon_code.specs.Canonical.{canonical, IsMade};
 ghost use Rattle.canon_code.specs.CodeText.{Lists};
-ghost use Rattle.canon_code.specs.Refusals.{HasSerialLength, ListsTriangulation, IsCodeOver, IsCause, IsFree};
-ghost use Rattle.canon_code.specs.Listing.{IsListingFault};
+ghost use Rattle.canon_code.specs.Refusals.{ListsTriangulation, IsCodeOver, IsCause, IsFree};
+ghost use Rattle.canon_code.specs.Listing.{IsListingFault, IsFaultOf};
 
 use super::canon::canon_of;
 use super::text::numbers_of;
-use super::triangulation::{Unlisted, halves_of};
+use super::triangulation::{Unlisted, halves_of, triangles_of};
 use super::{CanonFault, Code, CodeFault};
 use quad_field::{Field, Formula};
 use std::alloc::Global;
 use tri_core::{BadTri, Tri};
 
-/// How many triangles the numbers list, none where they haven't the length of a triangulation's serial.
-fn triangles_of(numbers: &[i128]) -> Option<u32>
-    ensures { SomeIff result (HasSerialLength numbers.now) (unsigned_abs (number_at numbers.now 0)) }
+/// Why the numbers aren't read, where half-edges are refused.
+fn fault_of(bad: BadTri) -> CodeFault
+    ensures { IsFaultOf bad result }
 {
-    let first = *numbers.first()?;
-    if first < 2 || first > 256 {
-        return None;
-    }
-    let count = first as u32;
-    if numbers.len() == 2 + 11 * count as usize {
-        Some(count)
-    } else {
-        None
+    match bad {
+        BadTri::Wide(formula) => CodeFault::Wide(formula),
+        BadTri::Memory => CodeFault::Memory,
+        BadTri::Count => CodeFault::NotCode,
+        BadTri::Sum(_) => CodeFault::NotCode,
+        BadTri::Turn(_) => CodeFault::NotCode,
+        BadTri::Twin(_) => CodeFault::NotCode,
+        BadTri::Apart(_) => CodeFault::NotCode,
     }
 }
 
@@ -49,9 +48,7 @@ fn listed(alloc: Global, f: &Field, numbers: &[i128]) -> Result<Tri, CodeFault>
     };
     match Tri::make(alloc, f, halves) {
         Ok(tri) => Ok(tri),
-        Err(BadTri::Wide(formula)) => Err(CodeFault::Wide(formula)),
-        Err(BadTri::Memory) => Err(CodeFault::Memory),
-        Err(_) => Err(CodeFault::NotCode),
+        Err(bad) => Err(fault_of(bad)),
     }
 }
 
@@ -60,7 +57,11 @@ fn code_of(alloc: Global, f: &Field, numbers: &[i128]) -> Result<Code, CodeFault
     ensures code { IfOk result (λ c. (c ≡ numbers.now) × IsMade f.now c) }
     ensures fault { IfErr result (IsListingFault f.now numbers.now) }
 {
-    let tri = listed(alloc, f, numbers)?;
+    let _number = f.number();
+    let tri = match listed(alloc, f, numbers) {
+        Ok(tri) => tri,
+        Err(fault) => return Err(fault),
+    };
     let code = match canon_of(alloc, f, &tri) {
         Ok(canon) => canon.code,
         Err(CanonFault::Wide) => return Err(CodeFault::Wide(Formula::F1)),
@@ -84,6 +85,8 @@ pub fn read_code(alloc: Global, f: &Field, text: &[u8]) -> Result<Code, CodeFaul
     ensures refused { (numbers : List ℤ) → Lists text.now numbers → ¬ (IsCodeOver f.now numbers)
         → MatchResult result (λ _. ⊥) (λ fault. (fault ≡ NotCode) ⊎ IsFree fault) }
 {
-    let numbers = numbers_of(alloc, text)?;
-    code_of(alloc, f, numbers.as_slice())
+    match numbers_of(alloc, text) {
+        Ok(numbers) => code_of(alloc, f, numbers.as_slice()),
+        Err(fault) => Err(fault),
+    }
 }

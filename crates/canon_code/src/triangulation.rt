@@ -6,6 +6,7 @@ ghost use Rattle.quad_field.specs.Width.{FitsI128, PartsFit};
 ghost use Rattle.plane.specs.Vectors.{vector, vector_sum, opposite_vector};
 ghost use Rattle.canon_code.specs.Canonical.{number_at, vector_from, canonical, PairFits, IsMade};
 ghost use Rattle.canon_code.specs.Listing.{IsTwinNumber, HasTwins, HasThird, with_triangle};
+ghost use Rattle.canon_code.specs.Refusals.{HasSerialLength};
 ghost use Rattle.canon_code.specs.declared.triangulation.Unlisted.TheVariants.{Twin, Third, Memory};
 
 use super::Code;
@@ -100,18 +101,32 @@ fn twin_number(numbers: &[i128], i: usize) -> Option<u32>
     }
 }
 
+/// The numbers of the three twins of a triangle.
+#[derive(Clone, Copy)]
+struct Twins {
+    first: u32,
+    second: u32,
+    third: u32,
+}
+
 /// The numbers of the three twins of triangle t, none where one isn't from 0 to 767.
-fn twins_at(numbers: &[i128], t: u32) -> Option<[u32; 3]>
+fn twins_at(numbers: &[i128], t: u32) -> Option<Twins>
     requires inside { 2 + 11 * t + 10 < length numbers.now }
     ensures twins { IfSome result (λ twins. HasTwins numbers.now t) }
-    ensures numbers { IfSome result (λ twins. twins ≡ unsigned_abs (number_at numbers.now (2 + 11 * t + 8)) ∷ unsigned_abs (number_at numbers.now (2 + 11 * t + 9)) ∷ unsigned_abs (number_at numbers.now (2 + 11 * t + 10)) ∷ []) }
+    ensures first { IfSome result (λ twins. twins.first ≡ unsigned_abs (number_at numbers.now (2 + 11 * t + 8))) }
+    ensures second { IfSome result (λ twins. twins.second ≡ unsigned_abs (number_at numbers.now (2 + 11 * t + 9))) }
+    ensures third { IfSome result (λ twins. twins.third ≡ unsigned_abs (number_at numbers.now (2 + 11 * t + 10))) }
     ensures none { result ≡ None → ¬ (HasTwins numbers.now t) }
 {
     let place = 2 + 11 * t as usize;
     let first = twin_number(numbers, place + 8)?;
     let second = twin_number(numbers, place + 9)?;
     let third = twin_number(numbers, place + 10)?;
-    Some([first, second, third])
+    Some(Twins {
+        first,
+        second,
+        third,
+    })
 }
 
 /// Appends the half-edges of triangle t.
@@ -122,15 +137,48 @@ fn push_triangle(halves: &mut Vec<Half>, numbers: &[i128], t: u32) -> Result<(),
     ensures twin { IfErr result (λ fault. fault ≡ Twin → ¬ (HasTwins numbers.now t)) }
     ensures third { IfErr result (λ fault. fault ≡ Third → ¬ (HasThird numbers.now t)) }
 {
-    let [a, b, c] = twins_at(numbers, t).ok_or(Unlisted::Twin)?;
+    let Some(twins) = twins_at(numbers, t) else {
+        return Err(Unlisted::Twin);
+    };
     let place = 2 + 11 * t as usize;
     let u = vector_at(numbers, place);
     let v = vector_at(numbers, place + 4);
-    let w = third_vector(&u, &v).ok_or(Unlisted::Third)?;
-    halves.push(Half { vec: u, twin: a })?;
-    halves.push(Half { vec: v, twin: b })?;
-    halves.push(Half { vec: w, twin: c })?;
+    let Some(w) = third_vector(&u, &v) else {
+        return Err(Unlisted::Third);
+    };
+    halves.push(Half {
+        vec: u,
+        twin: twins.first,
+    })?;
+    halves.push(Half {
+        vec: v,
+        twin: twins.second,
+    })?;
+    halves.push(Half {
+        vec: w,
+        twin: twins.third,
+    })?;
     Ok(())
+}
+
+/// How many triangles the numbers list, none where they haven't the length of a triangulation's serial.
+pub(crate) fn triangles_of(numbers: &[i128]) -> Option<u32>
+    ensures first { IfSome result (λ n. number_at numbers.now 0 ≡ pos n) }
+    ensures some { IfSome result (λ n. 2 ≤ n) }
+    ensures few { IfSome result (λ n. n ≤ 256) }
+    ensures count { IfSome result (λ n. length numbers.now ≡ 2 + 11 * n) }
+    ensures none { result ≡ None → ¬ (HasSerialLength numbers.now) }
+{
+    let first = *numbers.first()?;
+    if first < 2 || first > 256 {
+        return None;
+    }
+    let count = first as u32;
+    if numbers.len() == 2 + 11 * count as usize {
+        Some(count)
+    } else {
+        None
+    }
 }
 
 /// The half-edges that numbers of a serial's length list.
@@ -157,7 +205,9 @@ pub fn tri_of(alloc: Global, f: &Field, code: &Code) -> Result<Tri, AllocError>
 {
     let _number = f.number();
     let numbers = code.numbers();
-    let count = numbers[0] as u32;
+    let Some(count) = triangles_of(numbers) else {
+        unreachable!()
+    };
     match halves_of(alloc, numbers, count) {
         Ok(halves) => Ok(Tri::known(f, halves)),
         Err(Unlisted::Memory) => Err(AllocError),

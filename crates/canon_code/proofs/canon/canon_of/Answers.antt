@@ -5,7 +5,8 @@ use Rattle.std.proofs.lemmas.Int.{to_z-of_z}
 use Rattle.std.proofs.lemmas.List.{get_or_read}
 use Rattle.std.proofs.lemmas.Option.{slice_get-get_or}
 use Rattle.tri_core.specs.Images.{IsImageBy, CarriesFrame}
-use Rattle.canon_code.specs.Canonical.{canonical, matrix_of, IsFrame, IsMade}
+use Rattle.canon_code.specs.Canonical.{canonical, frame as frame_of, IsMade}
+use Rattle.plane.specs.Matrices.{IsReducedTo}
 use Rattle.canon_code.proofs.Framed.{frame_is, image_is}
 use Rattle.tri_core.specs.Triangulation.{IsTriangulation}
 use Rattle.canon_code.specs.Serials.{IsSerial}
@@ -18,8 +19,8 @@ index-start-requires c =
     let some = c.in-Ok.ensures.starts.all code.start (code.inside, code.serial) in
     omega (arith, some.1)
 
-pub frame_matrix-frame-requires-clause-half : goal.frame_matrix-frame-requires-clause-half
-frame_matrix-frame-requires-clause-half c =
+pub frame_at-frame-requires-clause-half : goal.frame_at-frame-requires-clause-half
+frame_at-frame-requires-clause-half c =
     let starts : List ℕ = c.in-Ok.best.starts.items in
     let code : IsCode c.args.f.now c.args.tri.now.halves c.in-Ok.best.serial.items = c.in-Ok.ensures.code in
     let some = c.in-Ok.ensures.starts.all code.start (code.inside, code.serial) in
@@ -52,10 +53,10 @@ returns-clause-frame c =
     let long : 1 < length serial = omega (arith, ap length own.numbers) in
     let scale : c.index.result.now ≡ pos own.scale = get_or_read serial 1 c.index.result.now long c.index.ensures (pos 0) ∙ ap (λ l. get_or l 1 (pos 0)) own.numbers in
     let fits : FitsSigned w128 c.index.result.now = search rules in
-    let frame : IsFrame halves c.index-start.result.now (pos own.scale) c.frame_matrix-frame.result.n c.frame_matrix-frame.result.den =
-    subst (λ m. IsFrame halves c.index-start.result.now m c.frame_matrix-frame.result.n c.frame_matrix-frame.result.den) (to_z-of_z w128 c.index.result.now fits ∙ scale) c.frame_matrix-frame.ensures in
-    subst (λ (l : List ℤ). CarriesFrame d (matrix_of c.frame_matrix-frame.result.n) (unsigned_abs c.frame_matrix-frame.result.den) (canonical d l) 0 halves c.index-start.result.now) (sym c.new.ensures)
-    (frame_is d field halves c.index-start.result.now serial valid inside own c.frame_matrix-frame.result.n c.frame_matrix-frame.result.den frame)
+    let frame : IsReducedTo (frame_of halves c.index-start.result.now) (pos own.scale) c.frame_at-frame.result =
+    subst (λ m. IsReducedTo (frame_of halves c.index-start.result.now) m c.frame_at-frame.result) (to_z-of_z w128 c.index.result.now fits ∙ scale) c.frame_at-frame.ensures in
+    subst (λ (l : List ℤ). CarriesFrame d c.frame_at-frame.result.rows c.frame_at-frame.result.denominator (canonical d l) 0 halves c.index-start.result.now) (sym c.new.ensures)
+    (frame_is d field halves c.index-start.result.now serial valid inside own c.frame_at-frame.result frame)
 
 pub returns-clause-image : goal.returns-clause-image
 returns-clause-image c =
@@ -75,10 +76,10 @@ returns-clause-image c =
     let long : 1 < length serial = omega (arith, ap length own.numbers) in
     let scale : c.index.result.now ≡ pos own.scale = get_or_read serial 1 c.index.result.now long c.index.ensures (pos 0) ∙ ap (λ l. get_or l 1 (pos 0)) own.numbers in
     let fits : FitsSigned w128 c.index.result.now = search rules in
-    let frame : IsFrame halves c.index-start.result.now (pos own.scale) c.frame_matrix-frame.result.n c.frame_matrix-frame.result.den =
-    subst (λ m. IsFrame halves c.index-start.result.now m c.frame_matrix-frame.result.n c.frame_matrix-frame.result.den) (to_z-of_z w128 c.index.result.now fits ∙ scale) c.frame_matrix-frame.ensures in
-    subst (λ (l : List ℤ). IsImageBy d (matrix_of c.frame_matrix-frame.result.n) (unsigned_abs c.frame_matrix-frame.result.den) (canonical d l) halves) (sym c.new.ensures)
-    (image_is d field halves c.index-start.result.now serial valid inside own c.frame_matrix-frame.result.n c.frame_matrix-frame.result.den frame)
+    let frame : IsReducedTo (frame_of halves c.index-start.result.now) (pos own.scale) c.frame_at-frame.result =
+    subst (λ m. IsReducedTo (frame_of halves c.index-start.result.now) m c.frame_at-frame.result) (to_z-of_z w128 c.index.result.now fits ∙ scale) c.frame_at-frame.ensures in
+    subst (λ (l : List ℤ). IsImageBy d c.frame_at-frame.result.rows c.frame_at-frame.result.denominator (canonical d l) halves) (sym c.new.ensures)
+    (image_is d field halves c.index-start.result.now serial valid inside own c.frame_at-frame.result frame)
 
 pub returns-clause-made : goal.returns-clause-made
 returns-clause-made c =
