@@ -1,4 +1,4 @@
--- What the crates above cite: lemmas on the spellings of numbers and vectors, about public definitions alone.
+-- What the crates above cite: lemmas on the spellings of numbers and vectors, and on matrices, about public definitions alone.
 use Rattle.std.proofs.Common.{◌≡◌, ◌≢◌, ℕ, zero, suc, ◌+◌, ◌<◌, ◌≤◌, ℤ, pos, negsuc, List, [], ◌∷◌, ◌++◌, length, arith}
 use Rattle.std.specs.List.{AllByRecursion}
 use Rattle.std.specs.Char.{digit_value}
@@ -12,6 +12,10 @@ pub use Rattle.plane.proofs.Naturals.{natural_text_injective}
 pub use Rattle.plane.proofs.Wholes.{whole_injective, root_injective}
 pub use Rattle.plane.proofs.Quads.{quad_injective}
 pub use Rattle.plane.proofs.Vectors.{vector_injective}
+-- one matrix in lowest terms for one value, and the identity is one
+pub use Rattle.plane.proofs.Matrices.{one_value, identity_lowest}
+-- the cofactors of two whole numbers, and what they divide
+pub use Rattle.plane.proofs.Cofactors.{Cofactors, cofactors, parts}
 
 -- the bytes of a natural number are digits, at least one
 pub natural_text_digits : (n : ℕ) → AllDigits 10 (natural_text n)

@@ -6,3 +6,4 @@ pub mod Vectors
 pub mod Spelling
 pub mod Reading
 pub mod Halves
+pub mod Matrices

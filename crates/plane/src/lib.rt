@@ -3,11 +3,14 @@
 #![tactic(auto)]
 
 mod halves;
+pub mod laws;
+mod mat2;
 mod texts;
 mod vec2;
 mod words;
 
 pub use halves::is_upper;
+pub use mat2::{Mat2, mat_equal, mat_identity};
 pub use texts::{
     QUAD_LENGTH, VECTOR_LENGTH, WHOLE_LENGTH, put_natural, put_quad, put_vector, put_whole,
 };

@@ -1,8 +1,8 @@
 //! Tables of words with what they are read as, and of numbers with their text.
 
 use super::{
-    NaturalWord, QuadWord, Vec2, VectorWord, WholeWord, put_quad, put_vector, put_whole,
-    read_natural, read_quad, read_vector, read_whole,
+    Mat2, NaturalWord, QuadWord, Vec2, VectorWord, WholeWord, mat_equal, mat_identity, put_quad,
+    put_vector, put_whole, read_natural, read_quad, read_vector, read_whole,
 };
 use quad_field::Quad;
 use std::test::Fail;
@@ -227,4 +227,38 @@ fn writes_behind_what_stands(rt: HostRuntime) -> Result<(), Fail> {
     put_vector(rt.alloc(), &mut out, &v)?;
     assert_eq!(rt; out.as_slice(), b"v 0+1r,-2-3r".as_slice());
     Ok(())
+}
+
+#[test]
+fn takes_matrices_to_lowest_terms(rt: HostRuntime) {
+    let one = quad(1, 0);
+    let zero = quad(0, 0);
+    let two = quad(2, 0);
+    let halves = [quad(1, 1), zero, zero, one];
+    for (n, den, entries, denominator) in [
+        ([one, zero, zero, one], 1, [one, zero, zero, one], 1),
+        ([two, zero, zero, two], 2, [one, zero, zero, one], 1),
+        ([quad(2, 2), zero, zero, two], 4, halves, 2),
+        (
+            [quad(6, 0), quad(0, -3), quad(9, 12), zero],
+            15,
+            [two, quad(0, -1), quad(3, 4), zero],
+            5,
+        ),
+        ([zero, zero, zero, zero], 7, [zero, zero, zero, zero], 1),
+        (
+            [quad(MIN, 0), zero, zero, zero],
+            MAX,
+            [quad(MIN, 0), zero, zero, zero],
+            MAX,
+        ),
+    ] {
+        let m = Mat2::reduced(n, den);
+        assert_eq!(rt; *m.entries(), entries);
+        assert_eq!(rt; m.denominator(), denominator);
+    }
+    let identity = mat_identity();
+    assert!(rt; mat_equal(&Mat2::reduced([two, zero, zero, two], 2), &identity));
+    assert!(rt; !mat_equal(&Mat2::reduced([one, zero, zero, one], 2), &identity));
+    assert!(rt; !mat_equal(&Mat2::reduced([one, quad(0, 1), zero, one], 1), &identity));
 }

@@ -1,0 +1,14 @@
+pub mod Numberings
+pub mod Serials
+pub mod Codes
+pub mod Search
+pub mod Canonical
+pub mod Numbered
+pub mod Coordinates
+pub mod FrameWidth
+pub mod Listed
+pub mod Least
+pub mod CodeText
+pub mod Refusals
+pub mod TextReading
+pub mod Listing

@@ -1,0 +1,24 @@
+//! Canonical codes of triangulations: lists of whole numbers that are equal exactly for triangulations of one class,
+//! the canonical triangulation of a code, and the text of a code.
+#![tactic(auto)]
+
+mod canon;
+mod code;
+mod coordinates;
+mod fault;
+pub mod laws;
+mod numbering;
+mod reader;
+mod serial;
+mod text;
+mod triangulation;
+
+pub use canon::{Canon, canon_of};
+pub use code::Code;
+pub use fault::{CanonFault, CodeFault};
+pub use reader::read_code;
+pub use text::code_text;
+pub use triangulation::tri_of;
+
+#[cfg(test)]
+mod tests;
