@@ -1,5 +1,5 @@
 -- What the flipping of a triangulation says of the input that it was made from.
-use Rattle.std.proofs.Common.{◌≡◌, ℕ, inl, inr, refl, List, ap, sym, ◌∙◌, subst, Err}
+use Rattle.std.proofs.Common.{◌≡◌, ℕ, inl, inr, refl, List, length, ap, sym, ◌∙◌, subst, Err}
 use Rattle.std.specs.Prelude.{Ok}
 use Rattle.surface_text.specs.Spelling.{Content}
 use Rattle.surface_text.specs.Limits.{IsBasePoint}
@@ -11,6 +11,7 @@ use Rattle.delaunay_flip.specs.declared.base.BaseFault.{BaseFault}
 use Rattle.delaunay_flip.specs.Bases.{Ending, EndsListed}
 use Rattle.delaunay_flip.specs.Answers.{IsRight}
 use Rattle.quad_field.specs.declared.formula.Formula.{Formula}
+use Rattle.quad_field.specs.declared.formula.Formula.TheVariants.{F1}
 use Rattle.answer_text.specs.declared.status.Status.TheVariants.{Done, NotStrict, FlipsEnded, TooWide, No}
 use Rattle.answer_text.specs.declared.no_cause.NoCause.TheVariants.{Wall}
 use Rattle.answer_text.specs.declared.place.Place.TheVariants.{Flips, Base as AtBase, Walk}
@@ -145,6 +146,10 @@ module _ (input : List ℕ) (flips : ℕ) (bases : List Point) (tri : Triangulat
   )
   path_refused choices base right status (inr (inl (formula, place, wide, is))) = (
     subst IsRefusal (sym is) (wide_walk_refusal formula place),
-    inl (owed_from (commands.Path flips choices) (λ d. IsPathAnswer d choices) (λ file status text answer. answer) base right status (status_line status) (inr (inr (formula, place, wide, is, ap status_line is)))),
+    inl (owed_from (commands.Path flips choices) (λ d. IsPathAnswer d choices) (λ file status text answer. answer) base right status (status_line status) (inr (inr (inl (formula, place, wide, is, ap status_line is))))),
   )
-  path_refused choices base right status (inr (inr is)) = refuses_memory (commands.Path flips choices) input status is
+  path_refused choices base right status (inr (inr (inl (end, ends, wide, is)))) = (
+    subst IsRefusal (sym is) (wide_walk_refusal F1 (length choices)),
+    inl (owed_from (commands.Path flips choices) (λ d. IsPathAnswer d choices) (λ file status text answer. answer) base right status (status_line status) (inr (inr (inr (end, ends, wide, is, ap status_line is))))),
+  )
+  path_refused choices base right status (inr (inr (inr is))) = refuses_memory (commands.Path flips choices) input status is

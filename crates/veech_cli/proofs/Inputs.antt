@@ -122,33 +122,42 @@ module _ (d : ℕ) (field : IsFieldNumber d) (choices : List ℕ) (halves : List
     | inr ne ↦ inl (inr (formula, place, ne, is))
   ]
 
+  -- a wide frame of the end is one as well
+  optional_end : (status : Status) → status ≡ TooWide F1 (places.Walk (length choices)) → IsOptional status
+  optional_end status is = inr (F1, length choices, (λ e. not_diagonal e), is)
+    where
+      not_diagonal : F1 ≡ F12 → ⊥
+      not_diagonal e = cc
+
   path_once : IsOnce (IsPathAnswer d choices) halves
-  path_once status other text line (inl a) (inl b) = inl (a.4 ∙ sym b.4)
-  path_once status other text line (inl a) (inr (inl b)) = absurd (no_end_without_wall d field halves valid choices b.0 a.0 b.1 a.2)
-  path_once status other text line (inr (inl a)) (inl b) = absurd (no_end_without_wall d field halves valid choices a.0 b.0 a.1 b.2)
-  path_once status other text line (inl a) (inr (inr b)) = elim (optional_or_stop other b.0 b.1 b.2 b.3) [
+  path_once status other text line (inr (inr (inr a))) b = inr (inl (optional_end status a.3))
+  path_once status other text line a (inr (inr (inr b))) = inr (inr (optional_end other b.3))
+  path_once status other text line (inl a) (inl b) = inl (a.6 ∙ sym b.6)
+  path_once status other text line (inl a) (inr (inl b)) = absurd (no_end_without_wall d field halves valid choices b.0 a.0 b.1 a.3)
+  path_once status other text line (inr (inl a)) (inl b) = absurd (no_end_without_wall d field halves valid choices a.0 b.0 a.1 b.3)
+  path_once status other text line (inl a) (inr (inr (inl b))) = elim (optional_or_stop other b.0 b.1 b.2 b.3) [
     | inl optional ↦ inr (inr optional)
-    | inr stop ↦ absurd (no_end_wide d field halves valid choices b.1 a.0 stop.0 a.2)
+    | inr stop ↦ absurd (no_end_wide d field halves valid choices b.1 a.0 stop.0 a.3)
   ]
-  path_once status other text line (inr (inr a)) (inl b) = elim (optional_or_stop status a.0 a.1 a.2 a.3) [
+  path_once status other text line (inr (inr (inl a))) (inl b) = elim (optional_or_stop status a.0 a.1 a.2 a.3) [
     | inl optional ↦ inr (inl optional)
-    | inr stop ↦ absurd (no_end_wide d field halves valid choices a.1 b.0 stop.0 b.2)
+    | inr stop ↦ absurd (no_end_wide d field halves valid choices a.1 b.0 stop.0 b.3)
   ]
   path_once status other text line (inr (inl a)) (inr (inl b)) =
       inl (a.2 ∙ ap (λ (place : ℕ). No (Wall place)) (one_stop d field halves valid choices a.0 b.0 (inl a.1) (inl b.1)) ∙ sym b.2)
-  path_once status other text line (inr (inl a)) (inr (inr b)) = elim (optional_or_stop other b.0 b.1 b.2 b.3) [
+  path_once status other text line (inr (inl a)) (inr (inr (inl b))) = elim (optional_or_stop other b.0 b.1 b.2 b.3) [
     | inl optional ↦ inr (inr optional)
     | inr stop ↦
         absurd (wall_or_wide d field halves valid choices b.1
         (subst (λ (place : ℕ). IsWithoutWall d halves choices place) (one_stop d field halves valid choices a.0 b.1 (inl a.1) (inr stop.0)) a.1) stop.0)
   ]
-  path_once status other text line (inr (inr a)) (inr (inl b)) = elim (optional_or_stop status a.0 a.1 a.2 a.3) [
+  path_once status other text line (inr (inr (inl a))) (inr (inl b)) = elim (optional_or_stop status a.0 a.1 a.2 a.3) [
     | inl optional ↦ inr (inl optional)
     | inr stop ↦
         absurd (wall_or_wide d field halves valid choices a.1
         (subst (λ (place : ℕ). IsWithoutWall d halves choices place) (one_stop d field halves valid choices b.0 a.1 (inl b.1) (inr stop.0)) b.1) stop.0)
   ]
-  path_once status other text line (inr (inr a)) (inr (inr b)) = elim (optional_or_stop status a.0 a.1 a.2 a.3) [
+  path_once status other text line (inr (inr (inl a))) (inr (inr (inl b))) = elim (optional_or_stop status a.0 a.1 a.2 a.3) [
     | inl optional ↦ inr (inl optional)
     | inr stop ↦ elim (optional_or_stop other b.0 b.1 b.2 b.3) [
       | inl optional ↦ inr (inr optional)

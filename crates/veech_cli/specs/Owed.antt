@@ -1,6 +1,6 @@
 -- What a command owes an input: a status, and the text that is written with it. Every other answer of a run is a failure of an end,
 -- want of memory, or a refusal of the words.
-use Rattle.std.specs.Prelude.{◌≡◌, ◌↔◌, ℕ, ◌⊎◌, Bool, IsTrue, List, length}
+use Rattle.std.specs.Prelude.{◌≡◌, ◌↔◌, ℕ, ℤ, ◌⊎◌, Bool, IsTrue, List, length}
 use Rattle.surface_text.specs.Spelling.{Content}
 use Rattle.surface_text.specs.declared.file.Point.{Point}
 use Rattle.tri_core.specs.declared.half.Half.{Half}
@@ -13,8 +13,10 @@ use Rattle.answer_text.specs.declared.place.Place.TheVariants as places
 use Rattle.answer_text.specs.RegionTexts.{walls_and_corners_text}
 use Rattle.answer_text.specs.WalkTexts.{walk_text}
 use Rattle.quad_field.specs.declared.formula.Formula.{Formula}
-use Rattle.quad_field.specs.declared.formula.Formula.TheVariants.{F12}
+use Rattle.quad_field.specs.declared.formula.Formula.TheVariants.{F1, F12}
 use Rattle.tri_core.specs.Images.{AreTranslationEqual}
+use Rattle.canon_code.specs.Codes.{IsCode}
+use Rattle.canon_code.specs.FrameWidth.{HasWideFrame}
 use Rattle.path_walk.specs.Walks.{IsEnd, IsWithoutWall, IsWideOnWalk}
 use Rattle.parabola_region.specs.WallLists.{PlainWall, IsWallList}
 use Rattle.parabola_region.specs.Corners.{IsCornerList}
@@ -34,15 +36,17 @@ IsRegionAnswer d halves status text =
     × (status ≡ Done) × (text ≡ walls_and_corners_text walls corners))
     ⊎ ((formula : Formula) × IsWideInstance d halves formula × (status ≡ TooWide formula places.Base) × (text ≡ status_line (TooWide formula places.Base)))
 
--- what `path` answers for a base: Done, with the length of the walk and whether its end is translation-equal to the base; that there is no
--- wall for a choice; or that a formula is wide on the walk
+-- what `path` answers for a base: Done, with the length of the walk, whether its end is translation-equal to the base, and the code of the
+-- end's class; that there is no wall for a choice; that a formula is wide on the walk; or that F1 is wide at a start of the end
 abbrev pub IsPathAnswer : ℕ → List ℕ → List Half → Status → List ℕ → Type 0
 IsPathAnswer d choices halves status text =
-    ((end : List Half) × (same : Bool) × IsEnd d halves choices end × (IsTrue same ↔ AreTranslationEqual d halves end)
-    × (status ≡ Done) × (text ≡ walk_text (length choices) same))
+    ((end : List Half) × (same : Bool) × (code : List ℤ) × IsEnd d halves choices end × (IsTrue same ↔ AreTranslationEqual d halves end) × IsCode d end code
+    × (status ≡ Done) × (text ≡ walk_text (length choices) same code))
     ⊎ ((place : ℕ) × IsWithoutWall d halves choices place × (status ≡ No (Wall place)) × (text ≡ status_line (No (Wall place))))
     ⊎ ((formula : Formula) × (place : ℕ) × IsWideOnWalk d halves choices formula place
     × (status ≡ TooWide formula (places.Walk place)) × (text ≡ status_line (TooWide formula (places.Walk place))))
+    ⊎ ((end : List Half) × IsEnd d halves choices end × HasWideFrame d end
+    × (status ≡ TooWide F1 (places.Walk (length choices))) × (text ≡ status_line (TooWide F1 (places.Walk (length choices)))))
 
 -- what a command that wants a base answers for an ending: for a strict one what it answers for the base, and else what `base` does
 abbrev pub AnswersAt : (List Half → Status → List ℕ → Type 0) → Point → Ending → Status → List ℕ → Type 0

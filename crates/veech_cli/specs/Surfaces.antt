@@ -1,5 +1,5 @@
 -- What the steps from an input to a surface have made. They serve private clauses alone.
-use Rattle.std.specs.Prelude.{◌≡◌, ℕ, ◌⊎◌, List}
+use Rattle.std.specs.Prelude.{◌≡◌, ℕ, ◌⊎◌, List, length}
 use Rattle.surface_text.specs.Spelling.{Content}
 use Rattle.surface_text.specs.declared.file.Point.{Point}
 use Rattle.gluing.specs.Gluings.{Gluing, gluing_of}
@@ -11,7 +11,9 @@ use Rattle.answer_text.specs.declared.place.Place.TheVariants as places
 use Rattle.quad_field.specs.declared.formula.Formula.{Formula}
 use Rattle.tri_core.specs.declared.half.Half.{Half}
 use Rattle.parabola_region.specs.Instances.{IsWideInstance}
-use Rattle.path_walk.specs.Walks.{IsWithoutWall, IsWideOnWalk}
+use Rattle.quad_field.specs.declared.formula.Formula.TheVariants.{F1}
+use Rattle.canon_code.specs.FrameWidth.{HasWideFrame}
+use Rattle.path_walk.specs.Walks.{IsEnd, IsWithoutWall, IsWideOnWalk}
 use Rattle.answer_text.specs.Statuses.{HasBasePoint}
 use Rattle.answer_text.specs.Lines.{status_line}
 use Rattle.command_words.specs.declared.command.Command.{Command}
@@ -47,9 +49,10 @@ IsRefusalOf command input status = IsRefusal status × (Owes command input statu
 abbrev pub RefusesRegion : ℕ → List Half → Status → Type 0
 RefusesRegion d halves status = ((formula : Formula) × IsWideInstance d halves formula × (status ≡ TooWide formula places.Base)) ⊎ (status ≡ Memory)
 
--- the status says that a walk has no wall for a choice, that a formula is wide on it, or that memory ran out
+-- the status says that a walk has no wall for a choice, that a formula is wide on it or F1 at a start of its end, or that memory ran out
 abbrev pub RefusesWalk : ℕ → List Half → List ℕ → Status → Type 0
 RefusesWalk d halves choices status =
     ((place : ℕ) × IsWithoutWall d halves choices place × (status ≡ No (Wall place)))
     ⊎ ((formula : Formula) × (place : ℕ) × IsWideOnWalk d halves choices formula place × (status ≡ TooWide formula (places.Walk place)))
+    ⊎ ((end : List Half) × IsEnd d halves choices end × HasWideFrame d end × (status ≡ TooWide F1 (places.Walk (length choices))))
     ⊎ (status ≡ Memory)

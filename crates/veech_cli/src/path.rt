@@ -1,8 +1,12 @@
 //! The command `path`.
 
-ghost use Rattle.std.specs.Prelude.{◌≡◌, ◌↔◌, ◌≤◌, IsTrue, length, IfOk, IfErr};
+ghost use Rattle.std.specs.Prelude.{◌≡◌, ◌↔◌, ◌⊎◌, ◌≤◌, IsTrue, length, IfOk, IfErr};
 ghost use Rattle.tri_core.specs.Images.{AreTranslationEqual};
-ghost use Rattle.answer_text.specs.declared.status.Status.TheVariants.{Done};
+ghost use Rattle.answer_text.specs.declared.status.Status.TheVariants.{Done, TooWide, Memory};
+ghost use Rattle.answer_text.specs.declared.place.Place.TheVariants.{Walk};
+ghost use Rattle.quad_field.specs.declared.formula.Formula.TheVariants.{F1};
+ghost use Rattle.canon_code.specs.Codes.{IsCode};
+ghost use Rattle.canon_code.specs.FrameWidth.{HasWideFrame};
 ghost use Rattle.command_words.specs.declared.command.Command.TheVariants.{Path};
 ghost use Rattle.veech_cli.specs.Owed.{Owes, IsPathAnswer};
 ghost use Rattle.veech_cli.specs.Surfaces.{IsRefusalOf, RefusesWalk};
@@ -10,10 +14,11 @@ ghost use Rattle.veech_cli.specs.Surfaces.{IsRefusalOf, RefusesWalk};
 use super::base::base_of_surface;
 use super::refusal::Refusal;
 use super::surface::surface_of;
-use answer_text::path_text;
+use answer_text::{Place, Status, path_text};
+use canon_code::{CanonFault, Code, canon_of};
 use path_walk::walk;
 use plane::mat_identity;
-use quad_field::Field;
+use quad_field::{Field, Formula};
 use std::alloc::{AllocError, Global};
 use tri_core::{EqualFault, Tri, equal_by};
 
@@ -49,8 +54,30 @@ fn path_from(
 {
     let end = walk(alloc, f, tri, choices)?;
     let same = is_translation(alloc, f, tri, &end)?;
-    let text = path_text(alloc, choices.len() as u32, same)?;
+    let length = choices.len() as u32;
+    let class = class_of(alloc, f, &end, length)?;
+    let text = path_text(alloc, length, same, &class)?;
     Ok(text)
+}
+
+/// The code of the end of a walk of so many choices.
+fn class_of(alloc: Global, f: &Field, end: &Tri, length: u32) -> Result<Code, Refusal>
+    requires { f.now ≡ end.now.field }
+    ensures code { IfOk result (IsCode end.now.field end.now.halves) }
+    ensures refused { IfErr result (λ refusal. (HasWideFrame end.now.field end.now.halves × (refusal.status ≡ TooWide F1 (Walk length))) ⊎ (refusal.status ≡ Memory)) }
+{
+    match canon_of(alloc, f, end) {
+        Ok(canon) => Ok(canon.code),
+        Err(CanonFault::Wide) => Err(Refusal {
+            status: Status::TooWide {
+                formula: Formula::F1,
+                place: Place::Walk { choice: length },
+            },
+        }),
+        Err(CanonFault::Memory) => Err(Refusal {
+            status: Status::Memory,
+        }),
+    }
 }
 
 /// Whether two triangulations are translation-equal.
