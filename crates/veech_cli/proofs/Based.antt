@@ -1,6 +1,8 @@
 -- What the flipping of a triangulation says of the input that it was made from.
 use Rattle.std.proofs.Common.{◌≡◌, ℕ, inl, inr, refl, List, length, ap, sym, ◌∙◌, subst, Err}
-use Rattle.std.specs.Prelude.{Ok}
+use Rattle.std.specs.Prelude.{Ok, ◌⊎◌}
+use Rattle.canon_code.specs.FrameWidth.{HasWideFrame}
+use Rattle.path_walk.specs.Walks.{IsEnd}
 use Rattle.surface_text.specs.Spelling.{Content}
 use Rattle.surface_text.specs.Limits.{IsBasePoint}
 use Rattle.surface_text.specs.declared.file.Point.{Point}
@@ -12,7 +14,7 @@ use Rattle.delaunay_flip.specs.Bases.{Ending, EndsListed}
 use Rattle.delaunay_flip.specs.Answers.{IsRight}
 use Rattle.quad_field.specs.declared.formula.Formula.{Formula}
 use Rattle.quad_field.specs.declared.formula.Formula.TheVariants.{F1}
-use Rattle.answer_text.specs.declared.status.Status.TheVariants.{Done, NotStrict, FlipsEnded, TooWide, No}
+use Rattle.answer_text.specs.declared.status.Status.TheVariants.{Done, NotStrict, FlipsEnded, TooWide, No, Memory}
 use Rattle.answer_text.specs.declared.no_cause.NoCause.TheVariants.{Wall}
 use Rattle.answer_text.specs.declared.place.Place.TheVariants.{Flips, Base as AtBase, Walk}
 use Rattle.answer_text.specs.declared.status.Status.{Status}
@@ -45,6 +47,13 @@ no_wall_refusal place = record { not_done = λ e. cc; not_words = λ e. cc; not_
 
 wide_walk_refusal : (formula : Formula) (place : ℕ) → IsRefusal (TooWide formula (Walk place))
 wide_walk_refusal formula place = record { not_done = λ e. cc; not_words = λ e. cc; not_write_fault = λ e. cc; point = tt }
+
+-- where the end of a walk has no code, that refuses the walk
+pub class_refused : (d : ℕ) (halves : List Half) (choices : List ℕ) (e : ℕ) (end : List Half) (n : ℕ) (status : Status) → e ≡ d → IsEnd d halves choices end → n ≡ length choices
+    → (HasWideFrame e end × (status ≡ TooWide F1 (Walk n))) ⊎ (status ≡ Memory) → RefusesWalk d halves choices status
+class_refused d halves choices e end n status field ends same (inl (wide, is)) =
+    inr (inr (inl (end, ends, subst (λ (f : ℕ). HasWideFrame f end) field wide, is ∙ ap (λ (m : ℕ). TooWide F1 (Walk m)) same)))
+class_refused d halves choices e end n status field ends same (inr memory) = inr (inr (inr memory))
 
 module _ (input : List ℕ) (flips : ℕ) (bases : List Point) (tri : Triangulation) (made : IsTriangulatedFrom input bases tri) where
   -- how the flipping of the triangulation ends

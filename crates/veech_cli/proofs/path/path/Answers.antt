@@ -16,3 +16,9 @@ returns-in_err-text-clause-refused c =
     let p = err_from_is_err_and c.from_residual-in_err-text.result c.from_residual-in_err-text.ensures.1 in
     rw (p.1, p.2) (path_refused c.args.input.now c.args.flips c.in_ok-surface.surface.bases.items c.in_ok-surface.surface.tri
     c.in_ok-surface.ensures.made c.args.choices.now c.in_ok-base.base c.in_ok-base.ensures c.in_err-text.field-0.0.status c.in_err-text.ensures.refused)
+
+pub returns-clause-owed : goal.returns-clause-owed
+returns-clause-owed c =
+    owed_from c.args.input.now c.args.flips c.in_ok-surface.surface.bases.items c.in_ok-surface.surface.tri
+    c.in_ok-surface.ensures.made (Path c.args.flips c.args.choices.now) (λ d. IsPathAnswer d c.args.choices.now) (λ file status text answer. answer)
+    c.in_ok-base.base c.in_ok-base.ensures Done c.in_ok-text.text.items c.in_ok-text.ensures.answer
