@@ -1,4 +1,4 @@
-//! Vectors of the plane over the K-integers, and the words that spell them.
+//! Vectors of the plane and matrices over the field, and the words that spell numbers and vectors.
 //! Every operation is exact, or says that a step of it lies outside i128; every number has one spelling.
 #![tactic(auto)]
 
@@ -14,7 +14,7 @@ pub use mat2::{Mat2, mat_equal, mat_identity};
 pub use texts::{
     QUAD_LENGTH, VECTOR_LENGTH, WHOLE_LENGTH, put_natural, put_quad, put_vector, put_whole,
 };
-pub use vec2::{Vec2, det, opposite, sum};
+pub use vec2::{Vec2, det, mapped, multiple, opposite, sum};
 pub use words::{
     NaturalWord, QuadWord, VectorWord, WholeWord, read_natural, read_quad, read_vector, read_whole,
 };

@@ -2,8 +2,10 @@
 
 ghost use Rattle.std.specs.Prelude.{◌≡◌, ◌↔◌, IsOk, IfOk};
 ghost use Rattle.quad_field.specs.Quads.{quad_ops};
-ghost use Rattle.quad_field.specs.Width.{term_ops, StepsFit};
-ghost use Rattle.plane.specs.Vectors.{vector, vector_term, vector_sum, opposite_vector, VectorFits, det as determinant};
+ghost use Rattle.quad_field.specs.Width.{term_ops, number, StepsFit};
+ghost use Rattle.rings.specs.Matrices.{mapped as image_of};
+ghost use Rattle.plane.specs.Vectors.{vector, vector_term, matrix_term, scaled_vector, scaled_term, vector_sum, opposite_vector, VectorFits, det as determinant};
+ghost use Rattle.plane.specs.Matrices.{rows_of};
 
 use quad_field::{Field, Quad, TooWide};
 
@@ -41,5 +43,35 @@ pub fn opposite(f: &Field, u: &Vec2) -> Result<Vec2, TooWide>
 {
     let s = f.neg(u.s)?;
     let t = f.neg(u.t)?;
+    Ok(Vec2 { s, t })
+}
+
+/// `(n0·s + n1·t, n2·s + n3·t)`, the image of (s, t) by the matrix n, whose numbers stand by rows. Too wide exactly where a step is.
+pub fn mapped(f: &Field, n: &[Quad; 4], v: &Vec2) -> Result<Vec2, TooWide>
+    ensures exact { IfOk result (λ w. vector w ≡ image_of (quad_ops f.now) (rows_of n.now) (vector v.now)) }
+    ensures fits { IsOk result ↔ VectorFits f.now (image_of term_ops (matrix_term (rows_of n.now)) (vector_term v.now)) }
+{
+    let s = row_times(f, n[0], n[1], v)?;
+    let t = row_times(f, n[2], n[3], v)?;
+    Ok(Vec2 { s, t })
+}
+
+/// `p·s + q·t`. Too wide exactly where a step is.
+fn row_times(f: &Field, p: Quad, q: Quad, v: &Vec2) -> Result<Quad, TooWide>
+    ensures exact { IfOk result (λ x. x ≡ (quad_ops f.now).add ((quad_ops f.now).mul p v.now.s) ((quad_ops f.now).mul q v.now.t)) }
+    ensures fits { IsOk result ↔ StepsFit f.now (term_ops.add (term_ops.mul (number p) (number v.now.s)) (term_ops.mul (number q) (number v.now.t))) }
+{
+    let first = f.mul(p, v.s)?;
+    let second = f.mul(q, v.t)?;
+    f.add(first, second)
+}
+
+/// k·v. Too wide exactly where a part of a coordinate is.
+pub fn multiple(f: &Field, k: i128, v: &Vec2) -> Result<Vec2, TooWide>
+    ensures exact { IfOk result (λ w. vector w ≡ scaled_vector k (vector v.now)) }
+    ensures fits { IsOk result ↔ VectorFits f.now (scaled_term k v.now) }
+{
+    let s = f.scale(v.s, k)?;
+    let t = f.scale(v.t, k)?;
     Ok(Vec2 { s, t })
 }

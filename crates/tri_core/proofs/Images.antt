@@ -68,12 +68,12 @@ module _ (d : ℕ) (n : Matrix Quad) (m : ℕ) (from to : List Half) (forth back
 
 -- ---- the identity
 -- 1·v, both ways
-one_vector : (d : ℕ) (v : Vector Quad) → multiple_vector (quad_ops d) ((quad_ops d).int (pos 1)) v ≡ v
+pub one_vector : (d : ℕ) (v : Vector Quad) → multiple_vector (quad_ops d) ((quad_ops d).int (pos 1)) v ≡ v
 one_vector d v =
     let one = λ (x : Quad). identity (quad_ops d) (quad_ring d) (x ∷ []) (expr.mul (expr.int (pos 1)) (var 0)) (var 0) tt in
     vectors_equal (quad_ops d) (quad_ring d) _ _ (one v.0) (one v.1)
 
-one_mapped : (d : ℕ) (v : Vector Quad) → mapped (quad_ops d) (identity_matrix (quad_ops d)) v ≡ v
+pub one_mapped : (d : ℕ) (v : Vector Quad) → mapped (quad_ops d) (identity_matrix (quad_ops d)) v ≡ v
 one_mapped d v =
     let O = quad_ops d in
     let image = mapped expr (identity_matrix expr) (var 0, var 1) in

@@ -16,3 +16,7 @@ mod Handed
 mod SeveralFlips
 mod Folds
 mod Images
+mod Changed
+mod Walks
+mod Mapped
+mod Bijections

@@ -9,5 +9,7 @@ pub mod Flips
 pub mod Slots
 pub mod SeveralFlips
 pub mod Images
+pub mod Mapped
+pub mod Walks
 pub mod Refusals
 pub mod Neighbours

@@ -3,15 +3,20 @@
 #![tactic(auto)]
 
 mod closed;
+mod equality;
 mod half;
+mod image;
 mod joined;
 pub mod laws;
 mod paired;
 mod quadrilateral;
 mod tri;
 mod turns;
+mod walk;
 
+pub use equality::{EqualFault, equal_by};
 pub use half::Half;
+pub use image::ImageFault;
 pub use tri::{BadTri, Tri};
 
 #[cfg(test)]

@@ -1,12 +1,15 @@
 //! Triangulations by hand: some that are made, copied and flipped, and each refusal once.
 
 ghost use Rattle.std.specs.Prelude.{◌≡◌, ◌<◌, IsTrue, IfOk, IsSome, IfSome};
+ghost use Rattle.rings.specs.Matrices.{matrix_det};
+ghost use Rattle.quad_field.specs.Quads.{quad_ops, IsPositive};
+ghost use Rattle.plane.specs.Matrices.{rows_of};
 ghost use Rattle.tri_core.specs.HalfEdges.{twin_at, previous_of};
 ghost use Rattle.tri_core.specs.Triangulation.{TurnsInto};
 ghost use Rattle.tri_core.specs.Flips.{IsEdge, IsStrictlyConvex};
 
-use super::{BadTri, Half, Tri};
-use plane::{Vec2, det};
+use super::{BadTri, EqualFault, Half, ImageFault, Tri, equal_by};
+use plane::{Mat2, Vec2, det};
 use quad_field::{Field, Formula, Quad, Sign, TooWide, Wide};
 use std::alloc::{AllocError, Global};
 use std::test::Fail;
@@ -437,6 +440,183 @@ fn refuses_a_wide_diagonal_and_changes_nothing(rt: HostRuntime) -> Result<(), Fa
             })
         );
         assert_eq!(rt; first_difference(&tri, &rows), None);
+    }
+    Ok(())
+}
+
+/// The square torus after a quarter turn.
+const QUARTER_TURN: [Row; 6] = [
+    (0, 1, 4),
+    (-1, 0, 5),
+    (1, -1, 3),
+    (-1, 1, 2),
+    (0, -1, 0),
+    (1, 0, 1),
+];
+
+/// The square torus of twice its size.
+const DOUBLED: [Row; 6] = [
+    (2, 0, 4),
+    (0, 2, 5),
+    (-2, -2, 3),
+    (2, 2, 2),
+    (-2, 0, 0),
+    (0, -2, 1),
+];
+
+/// Two squares side by side.
+const BESIDE: [Row; 12] = [
+    (1, 0, 4),
+    (0, 1, 11),
+    (-1, -1, 3),
+    (1, 1, 2),
+    (-1, 0, 0),
+    (0, -1, 7),
+    (1, 0, 10),
+    (0, 1, 5),
+    (-1, -1, 9),
+    (1, 1, 8),
+    (-1, 0, 6),
+    (0, -1, 1),
+];
+
+/// Two squares one above the other.
+const ABOVE: [Row; 12] = [
+    (1, 0, 10),
+    (0, 1, 5),
+    (-1, -1, 3),
+    (1, 1, 2),
+    (-1, 0, 6),
+    (0, -1, 1),
+    (1, 0, 4),
+    (0, 1, 11),
+    (-1, -1, 9),
+    (1, 1, 8),
+    (-1, 0, 0),
+    (0, -1, 7),
+];
+
+const MAX: i128 = i128::MAX;
+
+const fn matrix(n: [i128; 4]) -> [Quad; 4] {
+    [whole(n[0]), whole(n[1]), whole(n[2]), whole(n[3])]
+}
+
+/// The triangulation of these half-edges.
+fn made(alloc: Global, f: &Field, rows: &[Row]) -> Result<Tri, Fail>
+    ensures { IfOk result (λ tri. tri.field ≡ f.now) }
+{
+    let halves = halves(alloc, rows)?;
+    let tri = Tri::make(alloc, f, halves)?;
+    Ok(tri)
+}
+
+/// Whether the determinant of a matrix is positive.
+fn is_positive(f: &Field, n: &[Quad; 4]) -> Result<bool, TooWide>
+    ensures { IfOk result (λ b. IsTrue b → IsPositive f.now (matrix_det (quad_ops f.now) (rows_of n.now))) }
+{
+    let first = Vec2 { s: n[0], t: n[1] };
+    let second = Vec2 { s: n[2], t: n[3] };
+    let area = det(f, &first, &second)?;
+    Ok(f.sign(area) == Sign::Plus)
+}
+
+/// The image by a matrix of positive determinant.
+fn image_safely(
+    alloc: Global,
+    f: &Field,
+    tri: &Tri,
+    n: &[Quad; 4],
+) -> Result<Result<Tri, ImageFault>, Fail>
+    requires { tri.now.field ≡ f.now }
+{
+    if !is_positive(f, n)? {
+        return Err("the determinant isn't positive".into());
+    }
+    Ok(tri.image(alloc, f, n))
+}
+
+#[test]
+fn maps_the_square_torus(rt: HostRuntime) -> Result<(), Fail> {
+    let f = Field::make(2).ok_or("2 is square-free")?;
+    let tri = made(rt.alloc(), &f, &TURNED)?;
+    let sheared = [
+        (-1, -1, 4),
+        (1, 0, 5),
+        (0, 1, 3),
+        (0, -1, 2),
+        (1, 1, 0),
+        (-1, 0, 1),
+    ];
+    let image = image_safely(rt.alloc(), &f, &tri, &matrix([1, 1, 0, 1]))?
+        .ok()
+        .ok_or("an image")?;
+    assert_eq!(rt; first_difference(&image, &sheared), None);
+    let wide = image_safely(rt.alloc(), &f, &tri, &matrix([MAX, -1, 0, 1]))?;
+    assert_eq!(rt; wide.err(), Some(ImageFault::Wide));
+    Ok(())
+}
+
+/// Whether one triangulation is the image of another by n over den.
+fn compared(
+    alloc: Global,
+    n: [Quad; 4],
+    den: i128,
+    from: &[Row],
+    to: &[Row],
+) -> Result<Result<bool, EqualFault>, Fail> {
+    let f = Field::make(2).ok_or("2 is square-free")?;
+    let from = made(alloc, &f, from)?;
+    let to = made(alloc, &f, to)?;
+    if den <= 0 {
+        return Err("the denominator isn't positive".into());
+    }
+    let m = Mat2::reduced(n, den);
+    Ok(equal_by(alloc, &f, &m, &from, &to))
+}
+
+#[test]
+fn compares_triangulations_by_a_matrix(rt: HostRuntime) -> Result<(), Fail> {
+    for (n, den, from, to, answer) in [
+        ([1, 0, 0, 1], 1, &TURNED[..], &TURNED[..], Ok(true)),
+        ([-1, 0, 0, -1], 1, &TURNED[..], &TURNED[..], Ok(true)),
+        ([1, 1, 0, 1], 1, &TURNED[..], &TURNED[..], Ok(false)),
+        ([2, 0, 0, 2], 2, &TURNED[..], &TURNED[..], Ok(true)),
+        ([2, 0, 0, 2], 1, &TURNED[..], &TURNED[..], Ok(false)),
+        // a turn
+        ([1, 0, 0, 1], 1, &TORUS[..], &QUARTER_TURN[..], Ok(false)),
+        ([0, -1, 1, 0], 1, &TORUS[..], &QUARTER_TURN[..], Ok(true)),
+        ([0, 1, -1, 0], 1, &TORUS[..], &QUARTER_TURN[..], Ok(true)),
+        // a denominator
+        ([-1, 0, 0, -1], 2, &DOUBLED[..], &TORUS[..], Ok(true)),
+        ([-1, 0, 0, -1], 1, &DOUBLED[..], &TORUS[..], Ok(false)),
+        ([-1, 0, 0, -1], 2, &TORUS[..], &DOUBLED[..], Ok(false)),
+        ([2, 0, 0, 2], 1, &TORUS[..], &DOUBLED[..], Ok(true)),
+        // other pairs, and another size
+        ([1, 0, 0, 1], 1, &BESIDE[..], &BESIDE[..], Ok(true)),
+        ([-1, 0, 0, -1], 1, &ABOVE[..], &ABOVE[..], Ok(true)),
+        ([1, 0, 0, 1], 1, &BESIDE[..], &ABOVE[..], Ok(false)),
+        ([1, 0, 0, 1], 1, &BESIDE[..], &TORUS[..], Ok(false)),
+        // a matrix without inverse
+        ([0, 0, 0, 0], 1, &TORUS[..], &TORUS[..], Ok(false)),
+        // width
+        (
+            [MAX, 1, 0, 1],
+            1,
+            &TORUS[..],
+            &TORUS[..],
+            Err(EqualFault::Wide),
+        ),
+        (
+            [1, 0, 0, 1],
+            MAX,
+            &TORUS[..],
+            &DOUBLED[..],
+            Err(EqualFault::Wide),
+        ),
+    ] {
+        let compared = compared(rt.alloc(), matrix(n), den, from, to)?;
+        assert_eq!(rt; compared, answer, "by {n:?} over {den}");
     }
     Ok(())
 }

@@ -7,15 +7,22 @@ ghost use Rattle.tri_core.specs.Refusals.{IsCause, IsForced, IsFree};
 ghost use Rattle.tri_core.specs.declared.tri.BadTri.{BadTri as Refusal};
 ghost use Rattle.tri_core.specs.declared.tri.BadTri.TheVariants.{Wide, Memory};
 ghost use Rattle.tri_core.specs.Flips.{IsEdge, IsStrictlyConvex, IsFlip, DiagonalFits};
+ghost use Rattle.tri_core.specs.Images.{IsImage};
+ghost use Rattle.tri_core.specs.Mapped.{AreMapped, ImagesFit};
+ghost use Rattle.tri_core.specs.declared.image.ImageFault.TheVariants.{Wide as TooWideImage};
+ghost use Rattle.plane.specs.Matrices.{rows_of};
+ghost use Rattle.rings.specs.Matrices.{matrix_det};
+ghost use Rattle.quad_field.specs.Quads.{quad_ops, IsPositive};
 ghost use Rattle.quad_field.specs.declared.formula.Formula.TheVariants.{F12, F13};
 
 use super::Half;
 use super::closed::first_open;
+use super::image::{ImageFault, mapped_halves};
 use super::joined::first_apart;
 use super::paired::first_unpaired;
 use super::quadrilateral::{exchange, new_diagonal};
 use super::turns::first_not_left;
-use quad_field::{Field, Formula, TooWide, Wide};
+use quad_field::{Field, Formula, Quad, TooWide, Wide};
 use std::alloc::{AllocError, Global};
 use std::marker::Model;
 
@@ -167,6 +174,30 @@ impl Tri {
         ensures { result ≡ next_of h }
     {
         if h % 3 == 2 { h - 2 } else { h + 1 }
+    }
+
+    /// All its half-edges, by their numbers.
+    pub(crate) fn halves(&self) -> &[Half]
+        ensures halves { result.now ≡ self.now.halves }
+        ensures valid { IsTriangulation self.now.field self.now.halves }
+    {
+        self.halves.as_slice()
+    }
+
+    /// The image by a matrix of positive determinant, whose numbers stand by rows: every vector is mapped, and the twins stay.
+    /// `ImageFault::Wide` only where the image of a vector has a step outside i128.
+    pub fn image(&self, alloc: Global, f: &Field, n: &[Quad; 4]) -> Result<Tri, ImageFault>
+        requires field { f.now ≡ self.now.field }
+        requires positive { IsPositive f.now (matrix_det (quad_ops f.now) (rows_of n.now)) }
+        ensures mapped { IfOk result (λ tri. (tri.field ≡ f.now) × AreMapped f.now (rows_of n.now) self.now.halves tri.halves) }
+        ensures image { IfOk result (λ tri. IsImage f.now (rows_of n.now) 1 self.now.halves tri.halves (λ k. k) (λ k. k)) }
+        ensures wide { IfErr result (λ fault. fault ≡ TooWideImage → ¬ (ImagesFit f.now (rows_of n.now) self.now.halves)) }
+    {
+        let halves = mapped_halves(alloc, f, n, self.halves.as_slice())?;
+        Ok(Tri {
+            field: f.number(),
+            halves,
+        })
     }
 
     /// A copy of the triangulation.
