@@ -10,3 +10,4 @@ pub mod Crossed
 pub mod Orders
 pub mod Paths
 pub mod CallerLemmas
+pub mod SquareTorus

@@ -8,3 +8,6 @@ mod flips;
 pub mod laws;
 
 pub use crossing::{CrossFault, cross, cross_back, cross_in_place};
+
+#[cfg(test)]
+mod tests;
