@@ -25,3 +25,4 @@ pub mod CarriedExistence
 pub mod CarriedReach
 pub mod CarriedBack
 pub mod CarriedCallers
+pub mod SquareTorus

@@ -12,3 +12,5 @@ pub use crossing::{CrossFault, cross, cross_back, cross_in_place};
 
 #[cfg(test)]
 mod carried_tests;
+#[cfg(test)]
+mod tests;
