@@ -1,6 +1,6 @@
 -- One more start.
-use Rattle.std.proofs.Common.{◌≡◌, ℕ, ◌+◌, ◌<◌, ◌≤◌, List, [], ◌∷◌, ◌++◌, length, get_or, refl, sym, ap, ◌∙◌, subst, inl, inr, arith}
-use Rattle.std.specs.Prelude.{ℤ}
+use Rattle.std.proofs.Common.{◌≡◌, ℕ, ◌+◌, ◌*◌, ◌/◌, ◌<◌, ◌≤◌, List, [], ◌∷◌, ◌++◌, length, get_or, refl, sym, ap, ◌∙◌, subst, inl, inr, arith}
+use Rattle.std.specs.Prelude.{ℤ, pos}
 use mathlib.Core.Path.{subst₂}
 use Rattle.std.specs.Ordering.{int_cmp, ordering_reverse}
 use Rattle.std.specs.Cmp.Lexicographic.{slice_cmp}
@@ -15,7 +15,10 @@ use Rattle.tri_core.specs.declared.half.Half.{Half}
 use Rattle.tri_core.specs.Triangulation.{IsTriangulation}
 use Rattle.canon_code.specs.Serials.{IsSerial}
 use Rattle.canon_code.specs.Codes.{IsBefore, IsCode, AreStarts}
+use Rattle.tri_core.specs.HalfEdges.{twin_at}
+use Rattle.canon_code.specs.Canonical.{number_at}
 use Rattle.canon_code.specs.Least.{IsLeastTo}
+use Rattle.canon_code.proofs.Rows.{length-rows}
 use Rattle.canon_code.proofs.Serials.{serial_once}
 use Rattle.canon_code.proofs.Codes.{equal_unless_before}
 
@@ -31,7 +34,7 @@ not_both_before xs ys p q = not_before_itself xs (order.trans xs ys xs p q)
 before_from_greater : (xs ys : List ℤ) → slice_cmp int_cmp xs ys ≡ Greater → IsBefore ys xs
 before_from_greater xs ys e = order.antisymm ys xs ∙ ap ordering_reverse e
 
-equal_from_tie : (xs ys : List ℤ) → slice_cmp int_cmp xs ys ≡ Equal → xs ≡ ys
+pub equal_from_tie : (xs ys : List ℤ) → slice_cmp int_cmp xs ys ≡ Equal → xs ≡ ys
 equal_from_tie xs ys e =
     equal_unless_before xs ys (λ p. let f : Less ≡ Equal = sym p ∙ e in cc)
     (λ p. let f : Less ≡ Equal = sym p ∙ order.antisymm ys xs ∙ ap ordering_reverse e in cc)
@@ -159,3 +162,13 @@ module _ (d : ℕ) (field : IsFieldNumber d) (halves : List Half) (valid : IsTri
     all = λ h s. l.all h s.0 s.1;
     ascending = l.ascending;
   }
+
+-- the best has the length of a serial
+pub best_long : (d : ℕ) (halves : List Half) (bound : ℕ) (code : List ℤ) (starts : List ℕ) → IsLeastTo d halves bound code starts → length code ≡ 2 + 11 * (length halves / 3)
+best_long d halves bound code starts l =
+    let own : IsSerial d halves (get_or starts 0 0) code = l.each 0 l.some in
+    ap length own.numbers ∙ omega (arith, length-rows own.written (λ k. own.number (twin_at halves (own.place k))) (length halves / 3))
+
+-- and begins with the number of triangles
+pub best_first : (d : ℕ) (halves : List Half) (bound : ℕ) (code : List ℤ) (starts : List ℕ) → IsLeastTo d halves bound code starts → number_at code 0 ≡ pos (length halves / 3)
+best_first d halves bound code starts l = let own : IsSerial d halves (get_or starts 0 0) code = l.each 0 l.some in ap (λ (c : List ℤ). number_at c 0) own.numbers

@@ -21,3 +21,4 @@ pub mod CodeExists
 pub mod TextReadings
 pub mod Listings
 pub mod Refused
+pub mod Compared

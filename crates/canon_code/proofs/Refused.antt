@@ -78,8 +78,10 @@ wide_triangle d numbers long w =
           let halves : List Half = canonical d numbers in
           let goal : Vector Term → Vector Term → Vector Term → Type 0 = λ a b c. VectorFits d (vector_sum term_ops (vector_sum term_ops a b) c) × StepsFit d (det term_ops a b) in
           let own : goal (term_from numbers (2 + 11 * t)) (term_from numbers (2 + 11 * t + 4)) (vector_term (half_of (side_from d numbers (2 + 11 * t) 2) 0).vec) = (
-            ((fit.sum.0, tt, (sum_fits (vector_from numbers (2 + 11 * t)).0.a (vector_from numbers (2 + 11 * t + 4)).0.a, sum_fits (vector_from numbers (2 + 11 * t)).0.b (vector_from numbers (2 + 11 * t + 4)).0.b)),
-                (fit.sum.1, tt, (sum_fits (vector_from numbers (2 + 11 * t)).1.a (vector_from numbers (2 + 11 * t + 4)).1.a, sum_fits (vector_from numbers (2 + 11 * t)).1.b (vector_from numbers (2 + 11 * t + 4)).1.b))),
+            (
+              (fit.sum.0, tt, (sum_fits (vector_from numbers (2 + 11 * t)).0.a (vector_from numbers (2 + 11 * t + 4)).0.a, sum_fits (vector_from numbers (2 + 11 * t)).0.b (vector_from numbers (2 + 11 * t + 4)).0.b)),
+              (fit.sum.1, tt, (sum_fits (vector_from numbers (2 + 11 * t)).1.a (vector_from numbers (2 + 11 * t + 4)).1.a, sum_fits (vector_from numbers (2 + 11 * t)).1.b (vector_from numbers (2 + 11 * t + 4)).1.b)),
+            ),
             fit.determinant,
           ) in
           let first : vector_term (half_at halves (3 * t)).vec ≡ term_from numbers (2 + 11 * t) = ap (λ (k : ℕ). vector_term (half_at halves k).vec) (sym zero_side) ∙ u in

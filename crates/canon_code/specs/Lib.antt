@@ -12,3 +12,4 @@ pub mod CodeText
 pub mod Refusals
 pub mod TextReading
 pub mod Listing
+pub mod Tries

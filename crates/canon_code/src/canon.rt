@@ -1,21 +1,18 @@
 //! The code of a triangulation, with its starts.
 
-ghost use Rattle.std.specs.Prelude.{◌≡◌, ℕ, ℤ, ◌+◌, ◌<◌, ◌≤◌, ◌<ℤ◌, pos, ◌∷◌, ◌++◌, [], length, get_or, slice_get, Some, unsigned_abs, IfOk, OnOk, IfErr};
-ghost use Rattle.tri_core.specs.Images.{IsImageBy, CarriesFrame};
-ghost use Rattle.canon_code.specs.Canonical.{canonical, frame, ThirdVectorsFit, IsMade};
+ghost use Rattle.std.specs.Prelude.{◌≡◌, ℕ, pos, ◌+◌, ◌<◌, ◌<ℤ◌, ◌∷◌, [], length, slice_get, Some, IfOk, IfErr};
 ghost use Rattle.plane.specs.Matrices.{IsReducedTo};
-ghost use Rattle.std.specs.Ordering.{int_cmp};
-ghost use Rattle.std.specs.Cmp.Lexicographic.{slice_cmp};
-ghost use Rattle.std.specs.declared.cmp.Ordering.TheVariants.{Less, Equal, Greater};
-ghost use Rattle.quad_field.specs.FieldNumber.{IsFieldNumber};
-ghost use Rattle.tri_core.specs.Triangulation.{IsTriangulation};
-ghost use Rattle.canon_code.specs.Serials.{IsSerial};
+ghost use Rattle.tri_core.specs.Images.{IsImageBy, CarriesFrame};
 ghost use Rattle.canon_code.specs.Codes.{IsCode, AreStarts};
-ghost use Rattle.canon_code.specs.Least.{IsLeastTo};
+ghost use Rattle.canon_code.specs.Least.{IsBestTo};
+ghost use Rattle.canon_code.specs.Canonical.{canonical, frame, ThirdVectorsFit, IsMade};
+ghost use Rattle.canon_code.specs.Tries.{IsTried, tried_serial};
 ghost use Rattle.canon_code.specs.FrameWidth.{HasWideFrame};
 ghost use Rattle.canon_code.specs.declared.fault.CanonFault.TheVariants.{Wide};
 
-use super::serial::serial_at;
+use super::coordinates::Coordinates;
+use super::numbering::Numbering;
+use super::serial::{Tried, order_of, serial_of, tried_at};
 use super::{CanonFault, Code};
 use plane::Mat2;
 use quad_field::Field;
@@ -30,28 +27,48 @@ pub struct Best {
     pub starts: Vec<u32>,
 }
 
-/// The first start as the best.
-fn first_best(alloc: Global, serial: Vec<i128>) -> Result<Best, AllocError>
-    ensures serial { IfOk result (λ b. b.serial.items ≡ serial.items) }
-    ensures starts { IfOk result (λ b. b.starts.items ≡ 0 ∷ []) }
+/// Empty lists with room for a triangulation of so many half-edges.
+fn room(alloc: Global, count: u32) -> Result<(Tried, Vec<i128>), AllocError> {
+    let numbering = Numbering::with_room(alloc, count as usize)?;
+    let list = Vec::with_capacity(alloc, 2 * count as usize)?;
+    let serial = Vec::with_capacity(alloc, 2 + 4 * count as usize)?;
+    let coordinates = Coordinates { scale: 1, list };
+    Ok((
+        Tried {
+            numbering,
+            coordinates,
+        },
+        serial,
+    ))
+}
+
+/// The start that was tried as the only best one.
+fn only(f: &Field, tri: &Tri, tried: &Tried, h: u32, old: Best) -> Result<Best, AllocError>
+    requires field { f.now ≡ tri.now.field }
+    requires tried { (k : ℕ) × (k < length tri.now.halves) × IsTried f.now tri.now.halves k tried.now }
+    ensures serial { IfOk result (λ b. b.serial.items ≡ tried_serial tri.now.halves tried.now) }
+    ensures starts { IfOk result (λ b. b.starts.items ≡ h ∷ []) }
+    ensures thirds { IfOk result (λ b. ThirdVectorsFit f.now b.serial.items) }
 {
-    let mut starts = Vec::new(alloc);
-    starts.push(0)?;
+    let serial = serial_of(f, tri, tried, old.serial)?;
+    let mut starts = old.starts;
+    starts.clear();
+    starts.push(h)?;
     Ok(Best { serial, starts })
 }
 
-/// The better of the best and the serial at start h: a lesser one is the only best one, and an equal one is another start.
-fn better(alloc: Global, best: Best, serial: Vec<i128>, h: u32) -> Result<Best, AllocError>
-    ensures less { slice_cmp int_cmp serial.items best.serial.items ≡ Less → IfOk result (λ b. (b.serial.items ≡ serial.items) × (b.starts.items ≡ h ∷ [])) }
-    ensures same { slice_cmp int_cmp serial.items best.serial.items ≡ Equal → IfOk result (λ b. (b.serial.items ≡ best.serial.items) × (b.starts.items ≡ best.starts.items ++ h ∷ [])) }
-    ensures greater { slice_cmp int_cmp serial.items best.serial.items ≡ Greater → IfOk result (λ b. (b.serial.items ≡ best.serial.items) × (b.starts.items ≡ best.starts.items)) }
+/// The better of the best and the start that was tried: a lesser serial is the only best one, and an equal one is another start.
+fn better(f: &Field, tri: &Tri, tried: &Tried, h: u32, best: Best) -> Result<Best, AllocError>
+    requires field { f.now ≡ tri.now.field }
+    requires half { h < length tri.now.halves }
+    requires tried { IsTried f.now tri.now.halves h tried.now }
+    requires best { IsBestTo f.now tri.now.halves h best.serial.items best.starts.items }
+    ensures { IfOk result (λ b. IsBestTo f.now tri.now.halves (h + 1) b.serial.items b.starts.items) }
 {
-    match serial.as_slice().cmp(best.serial.as_slice()) {
-        Ordering::Less => {
-            let mut starts = Vec::new(alloc);
-            starts.push(h)?;
-            Ok(Best { serial, starts })
-        }
+    let _number = f.number();
+    let _count = tri.triangles();
+    match order_of(best.serial.as_slice(), tri, tried) {
+        Ordering::Less => only(f, tri, tried, h, best),
         Ordering::Equal => {
             let mut starts = best.starts;
             starts.push(h)?;
@@ -64,7 +81,7 @@ fn better(alloc: Global, best: Best, serial: Vec<i128>, h: u32) -> Result<Best, 
     }
 }
 
-/// The least serial over all starts, with its starts.
+/// The least serial over all starts, with its starts. The lists of the best start and of the one that is tried are kept.
 pub fn best_of(alloc: Global, f: &Field, tri: &Tri) -> Result<Best, CanonFault>
     requires { f.now ≡ tri.now.field }
     ensures code { IfOk result (λ b. IsCode f.now tri.now.halves b.serial.items) }
@@ -74,17 +91,19 @@ pub fn best_of(alloc: Global, f: &Field, tri: &Tri) -> Result<Best, CanonFault>
 {
     let _number = f.number();
     let count = 3 * tri.triangles();
-    let serial = match serial_at(alloc, f, tri, 0) {
-        Ok(serial) => serial,
+    let (empty, serial) = room(alloc, count)?;
+    let mut tried = match tried_at(f, tri, 0, empty) {
+        Ok(tried) => tried,
         Err(fault) => return Err(fault),
     };
-    let mut best = first_best(alloc, serial)?;
+    let starts = Vec::with_capacity(alloc, count as usize)?;
+    let mut best = only(f, tri, &tried, 0, Best { serial, starts })?;
     for h in 1..count {
-        let serial = match serial_at(alloc, f, tri, h) {
-            Ok(serial) => serial,
+        tried = match tried_at(f, tri, h, tried) {
+            Ok(tried) => tried,
             Err(fault) => return Err(fault),
         };
-        best = better(alloc, best, serial, h)?;
+        best = better(f, tri, &tried, h, best)?;
     }
     Ok(best)
 }
