@@ -1,10 +1,10 @@
 -- The short way's arithmetic in 64 bits and in 128, and triples and values of whole numbers.
-use Rattle.std.proofs.Common.{◌≡◌, ℕ, ◌+◌, ◌*◌, ◌^◌, ◌<◌, ◌≤◌, ◌↔◌, to_z, of_z, arith, refl, ap, sym, subst, ◌∙◌}
+use Rattle.std.proofs.Common.{◌≡◌, ℕ, ◌+◌, ◌*◌, ◌^◌, ◌<◌, ◌≤◌, to_z, of_z, arith, ap, sym, subst, ◌∙◌}
 use Rattle.std.specs.Prelude.{ℤ, pos, ◌+ℤ◌, ◌-ℤ◌, ◌*ℤ◌, unsigned_abs, FitsSigned}
 use Rattle.std.specs.Int.{w64, w128}
 use Rattle.std.proofs.lemmas.Int.{ints, to_z-of_z}
-use Rattle.rings.specs.Ring.{Expr, var, expr, eval, whole_ops}
-use Rattle.rings.specs.Forms.{det, difference_of_products, turn_times, weighted_triple, hinge_triple, value_at}
+use Rattle.rings.specs.Ring.{Expr, var, expr, whole_ops}
+use Rattle.rings.specs.Forms.{difference_of_products, turn_times, weighted_triple, hinge_triple, value_at}
 use Rattle.quad_field.specs.declared.quad.Quad.{Quad}
 use Rattle.quad_field.specs.Quads.{quad, quad_ops}
 use Rattle.quad_field.specs.Width.{term_ops, StepsFit}
@@ -12,7 +12,7 @@ use Rattle.plane.specs.Vectors.{Vector}
 use Rattle.hinge_form.specs.Triples.{Triple, leaves, AllThreeFit}
 use Rattle.hinge_form.specs.Hinges.{vector_leaves}
 use Rattle.hinge_form.specs.Small.{IsWithin, IsWhole, IsWholeTriple, whole_vector, whole_triple}
-use Rattle.hinge_form.proofs.WholeTerms.{wholes, tree, whole_value, reach, steps, times_size, six, six_small}
+use Rattle.hinge_form.proofs.WholeTerms.{whole_value, reach, steps, times_size, six, six_small}
 
 -- ---- what is read back of numbers of 64 bits
 abbrev pub read : ℤ → ℤ

@@ -1,7 +1,7 @@
 -- Formulas at whole numbers: in every field they have the value that they have at whole numbers, and where that can't leave 128 bits by
 -- the size of the numbers, no step of them is wide.
-use Rattle.std.proofs.Common.{◌≡◌, ℕ, zero, suc, ◌+◌, ◌*◌, ◌^◌, ◌<◌, ◌≤◌, [], ◌∷◌, List, arith, refl, ap, sym, subst, ◌∙◌}
-use Rattle.std.specs.Prelude.{ℤ, pos, negsuc, ◌+ℤ◌, ◌-ℤ◌, ◌*ℤ◌, neg_ℤ, unsigned_abs, ⊤}
+use Rattle.std.proofs.Common.{◌≡◌, ℕ, zero, suc, ◌+◌, ◌*◌, ◌^◌, ◌<◌, ◌≤◌, [], ◌∷◌, arith, refl, ap, sym, subst, ◌∙◌}
+use Rattle.std.specs.Prelude.{ℤ, pos, ◌+ℤ◌, ◌-ℤ◌, ◌*ℤ◌, neg_ℤ, unsigned_abs}
 use mathlib.Core.Path.{ap₂, subst₂}
 use Rattle.std.proofs.lemmas.Int.{ints, unsigned_abs-mul}
 use Rattle.std.proofs.lemmas.Nat.{mul-le}
@@ -119,10 +119,25 @@ module _ (b : ℕ) (some : 1 ≤ b) where
 
     product_fits : (m n : ℤ) (r : ℕ) → unsigned_abs (m *ℤ n) ≤ r → r < 2 ^ 127 → AllFit (product_steps d (quad m (pos 0)) (quad n (pos 0)))
     product_fits m n r s h =
-        let own = fits_by_size (m *ℤ n) r s h in
-        (own, (zero_fits (pos 0 *ℤ pos 0) (times_nothing (pos 0)), (zero_fits (pos d *ℤ (pos 0 *ℤ pos 0)) (nothing d),
-        (subst FitsI128 (sym (whole_alone d (m *ℤ n))) own, (zero_fits (m *ℤ pos 0) (times_nothing m), (zero_fits (pos 0 *ℤ n) (nothing_times n),
-        (zero_fits ((m *ℤ pos 0) +ℤ (pos 0 *ℤ n)) (no_root m n), tt)))))))
+        let own = fits_by_size (m *ℤ n) r s h in (
+          own,
+          (
+            zero_fits (pos 0 *ℤ pos 0) (times_nothing (pos 0)),
+            (
+              zero_fits (pos d *ℤ (pos 0 *ℤ pos 0)) (nothing d),
+              (
+                subst FitsI128 (sym (whole_alone d (m *ℤ n))) own,
+                (
+                  zero_fits (m *ℤ pos 0) (times_nothing m),
+                  (
+                    zero_fits (pos 0 *ℤ n) (nothing_times n),
+                    (zero_fits ((m *ℤ pos 0) +ℤ (pos 0 *ℤ n)) (no_root m n), tt),
+                  ),
+                ),
+              ),
+            ),
+          ),
+        )
 
     -- no step of an expression is wide that reaches less than 2^127
     pub steps : (e : Expr) → reach b e < 2 ^ 127 → StepsFit d (tree (wholes v) e)
@@ -134,7 +149,7 @@ module _ (b : ℕ) (some : 1 ≤ b) where
       steps p (omega (arith, h, first_below p q)),
       steps q (omega (arith, h, second_below p q)),
       subst₂ (λ (x y : Quad). AllFit (product_steps d x y)) (sym (tree_value d v p)) (sym (tree_value d v q))
-      (product_fits (eval whole_ops v p) (eval whole_ops v q) (reach b (mul p q)) (size (mul p q)) h),
+          (product_fits (eval whole_ops v p) (eval whole_ops v q) (reach b (mul p q)) (size (mul p q)) h),
     )
     steps (neg p) h = (steps p h, parts (neg p) h)
 
