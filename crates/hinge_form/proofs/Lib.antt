@@ -11,4 +11,6 @@ pub mod Relations
 pub mod Cofactors
 pub mod Chords
 pub mod WallPoints
+pub mod WholeTerms
+pub mod SmallHinges
 pub mod CallerLemmas

@@ -2,3 +2,4 @@ pub mod Triples
 pub mod Hinges
 pub mod Lines
 pub mod Walls
+pub mod Small

@@ -8,6 +8,7 @@ pub mod laws;
 mod lines;
 mod place;
 mod reduced;
+mod small;
 mod triples;
 mod values;
 mod wall;

@@ -8,6 +8,7 @@ ghost use Rattle.plane.specs.Vectors.{vector, vector_term, VectorFits};
 ghost use Rattle.hinge_form.specs.Triples.{of_form, AllThreeFit};
 
 use super::Form;
+use super::small::{have_small, small_triple};
 use plane::{Vec2, det};
 use quad_field::{Field, Quad, TooWide};
 
@@ -82,11 +83,23 @@ fn weighted_triple(f: &Field, x: &Weights, a: &Vec2, c: &Vec2, d: &Vec2) -> Resu
     Ok(Form { alpha, beta, gamma })
 }
 
-/// The triple of the hinge a, c, d. Too wide exactly where a step of it is.
-pub fn triple_of(f: &Field, a: &Vec2, c: &Vec2, d: &Vec2) -> Result<Form, TooWide>
+/// The triple of the hinge a, c, d, step by step.
+fn long_way(f: &Field, a: &Vec2, c: &Vec2, d: &Vec2) -> Result<Form, TooWide>
     ensures exact { IfOk result (λ form. of_form form ≡ hinge_triple (quad_ops f.now) (vector a.now) (vector c.now) (vector d.now)) }
     ensures fits { IsOk result ↔ AllThreeFit f.now (hinge_triple term_ops (vector_term a.now) (vector_term c.now) (vector_term d.now)) }
 {
     let weights = weigh(f, a, c, d)?;
     weighted_triple(f, &weights, a, c, d)
+}
+
+/// The triple of the hinge a, c, d. Too wide exactly where a step of it is.
+#[inline]
+pub fn triple_of(f: &Field, a: &Vec2, c: &Vec2, d: &Vec2) -> Result<Form, TooWide>
+    ensures exact { IfOk result (λ form. of_form form ≡ hinge_triple (quad_ops f.now) (vector a.now) (vector c.now) (vector d.now)) }
+    ensures fits { IsOk result ↔ AllThreeFit f.now (hinge_triple term_ops (vector_term a.now) (vector_term c.now) (vector_term d.now)) }
+{
+    if have_small(a, c, d) {
+        return Ok(small_triple(a, c, d));
+    }
+    long_way(f, a, c, d)
 }

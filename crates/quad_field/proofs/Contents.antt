@@ -2,11 +2,11 @@
 use Rattle.std.proofs.Common.{◌≡◌, ℕ, zero, suc, ◌+◌, ◌*◌, ◌<◌, ◌≤◌, ◌≢◌, length, get_or, take, drop, set, [], ◌∷◌, ◌++◌, arith, ap, sym, refl, subst, ◌∙◌, add-one, below_more, get_or-set_other, length-set, to_z, of_z}
 use mathlib.Core.Path.{subst₂}
 use Rattle.std.specs.Prelude.{ℤ, pos, negsuc, neg_ℤ, ◌*ℤ◌, ◌<ℤ◌, List, map, unsigned_abs, FitsSigned}
-use Rattle.std.specs.Int.{IsGcd, w128}
+use Rattle.std.specs.Int.{IsGcd, w64, w128}
 use Rattle.std.specs.List.{All, AllWithin}
 use Rattle.std.specs.Int.RustNames.{int_div, int_rem}
 use Prim.Native.Nat.{◌∣◌}
-use Rattle.std.proofs.lemmas.Int.{ints, quot-rem, quot_fits, quot_is, unsigned_abs-mul}
+use Rattle.std.proofs.lemmas.Int.{ints, quot-rem, quot_fits, quot_is, to_z-of_z, unsigned_abs-mul}
 use Rattle.std.proofs.lemmas.Nat.Gcd.{dvd_antisymm, dvd_trans, dvd-zero, le_of_dvd, mod-eq-zero_of_dvd}
 use Rattle.std.proofs.lemmas.List.{get_or_default}
 use Rattle.std.proofs.lemmas.List.Elements.{All-map, All-same}
@@ -94,6 +94,20 @@ quotient_small n g fits some small h =
     let g_fits : FitsSigned w128 (pos g) = omega (arith, ints) in
     let positive : pos 0 <ℤ pos g = omega (arith, ints) in
     exact_quotient n (pos g) h ∙ ap (λ q. q *ℤ pos g) (sym (quot_is w128 n (pos g) fits g_fits (quot_fits w128 n (pos g) fits positive)))
+
+-- and in 64 bits
+pub quotient_64 : (n g : ℤ) → FitsSigned w64 n → FitsSigned w64 g → pos 0 <ℤ g → unsigned_abs g ∣ unsigned_abs n
+    → n ≡ to_z w64 (of_z w64 (int_div (to_z w64 (of_z w64 n)) (to_z w64 (of_z w64 g)))) *ℤ g
+quotient_64 n g fits g_fits positive h =
+    exact_quotient n g h ∙ ap (λ q. q *ℤ g) (sym (quot_is w64 n g fits g_fits (quot_fits w64 n g fits positive)))
+
+-- what divides a number divides it in 64 bits
+pub narrowed_divides : (n : ℤ) (g : ℕ) → FitsSigned w128 n → FitsSigned w64 n → g ≤ 9223372036854775807 → g ∣ unsigned_abs n
+    → unsigned_abs (to_z w64 g) ∣ unsigned_abs (to_z w64 (of_z w64 (to_z w128 (of_z w128 n))))
+narrowed_divides n g fits narrow small h =
+    let g_fits : FitsSigned w64 (pos g) = omega (arith, ints) in
+    subst₂ (λ (p q : ℤ). unsigned_abs p ∣ unsigned_abs q) (sym (to_z-of_z w64 (pos g) g_fits))
+    (sym (ap (λ (z : ℤ). to_z w64 (of_z w64 z)) (to_z-of_z w128 n fits) ∙ to_z-of_z w64 n narrow)) h
 
 -- where it is none, n is 0 or -g
 pub quotient_large : (n : ℤ) (g : ℕ) → FitsSigned w128 n → 170141183460469231731687303715884105727 < g → n ≢ pos 0 → g ∣ unsigned_abs n → n ≡ neg_ℤ (pos (1 * g))

@@ -11,6 +11,12 @@ use super::Quad;
 /// The greatest number of 64 bits.
 const MAX_64: u128 = u64::MAX as u128;
 
+/// The greatest signed number of 64 bits.
+const MAX_SIGNED_64: i128 = i64::MAX as i128;
+
+/// The least signed number of 64 bits.
+const MIN_64: i128 = i64::MIN as i128;
+
 /// The greatest common divisor of all parts of the list, 0 where all of them are 0.
 pub fn content(list: &[Quad]) -> u128
     ensures divides { DividesAll result list.now }
@@ -106,8 +112,32 @@ fn divide_all(nums: &mut [Quad], g: u128)
     }
 }
 
-/// n / g, where g divides n.
+/// n / g, where g divides n: in 64 bits where both fit.
+#[inline]
 fn quotient(n: i128, g: u128) -> i128
+    requires positive { 0 < g }
+    requires divides { g ∣ unsigned_abs n }
+    ensures { n ≡ result *ℤ pos g }
+{
+    if MIN_64 <= n && n <= MAX_SIGNED_64 && g <= MAX_SIGNED_64 as u128 {
+        return i128::from(quotient_64(n as i64, g as i64));
+    }
+    wide_quotient(n, g)
+}
+
+/// The same in 64 bits.
+#[inline]
+fn quotient_64(n: i64, g: i64) -> i64
+    requires positive { pos 0 <ℤ g }
+    requires divides { unsigned_abs g ∣ unsigned_abs n }
+    ensures { n ≡ result *ℤ g }
+{
+    n / g
+}
+
+/// The same where n or g doesn't fit in 64 bits.
+#[inline(never)]
+fn wide_quotient(n: i128, g: u128) -> i128
     requires positive { 0 < g }
     requires divides { g ∣ unsigned_abs n }
     ensures { n ≡ result *ℤ pos g }
