@@ -20,3 +20,4 @@ mod Changed
 mod Walks
 mod Mapped
 mod Bijections
+mod Translations

@@ -3,7 +3,7 @@
 ghost use Rattle.std.specs.Prelude.{◌≡◌, ◌↔◌, ℕ, pos, ◌<◌, ◌≤◌, ◌%◌, length, slice_index, IsTrue, IfOk, IfErr};
 ghost use Rattle.tri_core.specs.declared.equality.EqualFault.TheVariants.{Wide, Memory};
 ghost use Rattle.tri_core.specs.HalfEdges.{vector_at, twin_at, triangle_of, next_of, previous_of};
-ghost use Rattle.tri_core.specs.Images.{IsImageBy};
+ghost use Rattle.tri_core.specs.Images.{IsImageBy, AreTranslationEqual};
 ghost use Rattle.tri_core.specs.Mapped.{ImagesFit, MultiplesFit};
 ghost use Rattle.tri_core.specs.Walks.{AreGlued, IsWalk, Carries, CarriesAt, AreSameTriangle, IsPlaced, AreInside, AgreeBefore, equal_fault};
 
@@ -205,4 +205,15 @@ pub fn equal_by(
     let one = mapped_halves(alloc, f, m.entries(), from.halves())?;
     let two = multiplied_halves(alloc, f, m.denominator(), to.halves())?;
     Ok(are_carried(alloc, one.as_slice(), two.as_slice())?)
+}
+
+/// Whether two triangulations are translation-equal: some bijection of half-edges keeps next, twin and every vector.
+pub fn are_translation_equal(alloc: Global, from: &Tri, to: &Tri) -> Result<bool, AllocError>
+    requires { from.now.field ≡ to.now.field }
+    ensures { IfOk result (λ b. IsTrue b ↔ AreTranslationEqual from.now.field from.now.halves to.now.halves) }
+{
+    if from.triangles() != to.triangles() {
+        return Ok(false);
+    }
+    are_carried(alloc, from.halves(), to.halves())
 }

@@ -14,7 +14,7 @@ mod tri;
 mod turns;
 mod walk;
 
-pub use equality::{EqualFault, equal_by};
+pub use equality::{EqualFault, are_translation_equal, equal_by};
 pub use half::Half;
 pub use image::ImageFault;
 pub use tri::{BadTri, Tri};

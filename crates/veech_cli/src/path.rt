@@ -1,7 +1,6 @@
 //! The command `path`.
 
-ghost use Rattle.std.specs.Prelude.{◌≡◌, ◌↔◌, ◌⊎◌, ◌≤◌, IsTrue, length, IfOk, IfErr};
-ghost use Rattle.tri_core.specs.Images.{AreTranslationEqual};
+ghost use Rattle.std.specs.Prelude.{◌≡◌, ◌⊎◌, ◌≤◌, length, IfOk, IfErr};
 ghost use Rattle.answer_text.specs.declared.status.Status.TheVariants.{Done, TooWide, Memory};
 ghost use Rattle.answer_text.specs.declared.place.Place.TheVariants.{Walk};
 ghost use Rattle.quad_field.specs.declared.formula.Formula.TheVariants.{F1};
@@ -17,10 +16,9 @@ use super::surface::surface_of;
 use answer_text::{Place, Status, path_text};
 use canon_code::{CanonFault, Code, canon_of};
 use path_walk::walk;
-use plane::mat_identity;
 use quad_field::{Field, Formula};
-use std::alloc::{AllocError, Global};
-use tri_core::{EqualFault, Tri, equal_by};
+use std::alloc::Global;
+use tri_core::{Tri, are_translation_equal};
 
 /// What `path` prints for an input and these choices, with at most so many flips, or why there is nothing to print.
 pub(crate) fn path(
@@ -53,7 +51,7 @@ fn path_from(
     ensures refused { IfErr result (λ refusal. RefusesWalk tri.now.field tri.now.halves choices.now refusal.status) }
 {
     let end = walk(alloc, f, tri, choices)?;
-    let same = is_translation(alloc, f, tri, &end)?;
+    let same = are_translation_equal(alloc, tri, &end)?;
     let length = choices.len() as u32;
     let class = class_of(alloc, f, &end, length)?;
     let text = path_text(alloc, length, same, &class)?;
@@ -77,18 +75,5 @@ fn class_of(alloc: Global, f: &Field, end: &Tri, length: u32) -> Result<Code, Re
         Err(CanonFault::Memory) => Err(Refusal {
             status: Status::Memory,
         }),
-    }
-}
-
-/// Whether two triangulations are translation-equal.
-fn is_translation(alloc: Global, f: &Field, one: &Tri, other: &Tri) -> Result<bool, AllocError>
-    requires one { f.now ≡ one.now.field }
-    requires other { f.now ≡ other.now.field }
-    ensures { IfOk result (λ same. IsTrue same ↔ AreTranslationEqual one.now.field one.now.halves other.now.halves) }
-{
-    match equal_by(alloc, f, &mat_identity(), one, other) {
-        Ok(same) => Ok(same),
-        Err(EqualFault::Wide) => unreachable!(),
-        Err(EqualFault::Memory) => Err(AllocError),
     }
 }
