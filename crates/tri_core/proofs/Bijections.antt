@@ -1,10 +1,10 @@
 -- Half-edges that are carried to those of a connected triangulation with as many are carried by a bijection.
-use Rattle.std.proofs.Common.{◌≡◌, ◌⊎◌, ℕ, zero, suc, ◌*◌, ◌<◌, ◌≤◌, ◌||◌, Bool, true, false, IsTrue, List, length, cond, eqb, refl, sym, ◌∙◌, ap, subst, arith, inl, inr}
+use Rattle.std.proofs.Common.{◌≡◌, ◌⊎◌, ℕ, zero, suc, ◌<◌, ◌||◌, Bool, false, IsTrue, List, length, cond, eqb, refl, sym, ◌∙◌, ap, subst, arith, inl, inr}
 use Rattle.std.specs.Prelude.{pos}
 use Rattle.std.proofs.lemmas.Bool.{cases_eq, cases_lt, or_cases, or_left, or_right, eq-eqb, both_ways}
 use Rattle.std.proofs.lemmas.Bool.Decides.{eqb_tells}
 use Rattle.rings.specs.Vectors.{Vector, multiple_vector}
-use Rattle.rings.specs.Matrices.{Matrix, mapped}
+use Rattle.rings.specs.Matrices.{Matrix}
 use Rattle.rings.proofs.Pigeonhole.{First, first_below, repeats, ne-eqb}
 use Rattle.quad_field.specs.declared.quad.Quad.{Quad}
 use Rattle.quad_field.specs.Quads.{quad_ops}

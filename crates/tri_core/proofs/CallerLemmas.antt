@@ -30,6 +30,9 @@ pub use Rattle.tri_core.proofs.Folds.{bool_equal, among_more, among_cases, among
 -- ---- images
 pub use Rattle.tri_core.proofs.Images.{inverse_swapped, inverse_composed, forth_inside, back_inside, forth_back, forth_injective}
 pub use Rattle.tri_core.proofs.Images.{previous_kept, frame_carried, image_turns_left, translation_vectors, translation_from, translation_same}
+-- ---- half-edges with every vector mapped are the image, and a triangulation; and half-edges that are carried with next and twin are carried by a bijection
+pub use Rattle.tri_core.proofs.Mapped.{mapped_image, mapped_valid}
+pub use Rattle.tri_core.proofs.Bijections.{carried_inverse}
 
 -- where the outer sides of the flip at h go, whose twin is g
 module _ (h g : ℕ) (apart : ¬ (triangle_of h ≡ triangle_of g)) where

@@ -13,10 +13,9 @@ use Rattle.quad_field.specs.Quads.{quad_ops, IsPositive}
 use Rattle.quad_field.proofs.CallerLemmas.{quad_ring, order_of}
 use Rattle.tri_core.specs.declared.half.Half.{Half}
 use Rattle.tri_core.specs.HalfEdges.{vector_at, twin_at, triangle_of}
-use Rattle.tri_core.specs.Triangulation.{IsTriangulation, IsTriangle, IsJoined, IsPaired, IsClosed, TurnsInto}
+use Rattle.tri_core.specs.Triangulation.{IsTriangulation, IsTriangle, IsJoined}
 use Rattle.tri_core.specs.Images.{IsImage}
 use Rattle.tri_core.specs.Mapped.{AreChanged, AreMapped}
-use Rattle.tri_core.specs.Slots.{HasPairs}
 use Rattle.tri_core.specs.Walks.{AreGlued}
 use Rattle.tri_core.proofs.Quadrilaterals.{vectors_equal}
 use Rattle.tri_core.proofs.Images.{one_vector}

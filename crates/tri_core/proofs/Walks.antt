@@ -1,5 +1,5 @@
 -- A walk over all triangles, and half-edges carried along it.
-use Rattle.std.proofs.Common.{◌≡◌, ◌⊎◌, ℕ, zero, suc, ◌+◌, ◌*◌, ◌/◌, ◌<◌, ◌≤◌, Bool, true, false, List, [], ◌∷◌, ◌++◌, length, get_or, set, replicate, refl, sym, ◌∙◌, ap, subst, arith, inl, inr}
+use Rattle.std.proofs.Common.{◌≡◌, ℕ, zero, suc, ◌+◌, ◌*◌, ◌/◌, ◌<◌, ◌≤◌, Bool, true, false, List, [], ◌∷◌, ◌++◌, length, get_or, set, replicate, refl, sym, ◌∙◌, ap, subst, arith, inl, inr}
 use Rattle.std.specs.Prelude.{not, cond, count_by}
 use Rattle.std.proofs.lemmas.List.Sums.{sum_by-set, count_by-le-length}
 use Rattle.std.proofs.lemmas.Bool.{cases_eq, cases_lt, both_ways}
@@ -9,7 +9,7 @@ use Rattle.tri_core.specs.declared.half.Half.{Half}
 use Rattle.tri_core.specs.HalfEdges.{vector_at, twin_at, triangle_of, next_of, previous_of}
 use Rattle.tri_core.specs.Slots.{HasPairs}
 use Rattle.tri_core.specs.Triangulation.{IsTriangle}
-use Rattle.tri_core.specs.Walks.{AreGlued, IsPath, ComesBefore, ComesInto, IsWalk, IsWalkSoFar, Carries, CarriesAt, AreSameTriangle, IsPlaced, AreInside, AgreeBefore}
+use Rattle.tri_core.specs.Walks.{AreGlued, IsPath, ComesInto, IsWalk, IsWalkSoFar, Carries, CarriesAt, AreSameTriangle, IsPlaced, AreInside, AgreeBefore}
 use Rattle.tri_core.proofs.Triangles.{next_next, of_one_triangle}
 
 -- ---- the walk

@@ -1,4 +1,4 @@
-use Rattle.std.proofs.Common.{◌≡◌, ℕ, ◌<◌, ◌≤◌, length}
+use Rattle.std.proofs.Common.{ℕ, ◌≤◌}
 use Rattle.tri_core.specs.Walks.{Carries, AreInside}
 use Rattle.tri_core.proofs.equality.are_carried.Given as goal
 

@@ -2,33 +2,27 @@ use Rattle.std.proofs.Common.{rules, ◌≡◌, ℕ, List, length, of_z, to_z, s
 use Rattle.std.specs.Prelude.{ℤ, pos, FitsSigned}
 use Rattle.std.specs.Int.{w128}
 use Rattle.std.proofs.lemmas.Int.{to_z-of_z}
-use Rattle.rings.specs.Matrices.{Matrix, mapped}
+use Rattle.rings.specs.Matrices.{Matrix}
 use Rattle.quad_field.specs.declared.quad.Quad.{Quad}
-use Rattle.quad_field.specs.Quads.{quad_ops}
 use Rattle.plane.specs.Matrices.{rows_of}
-use Rattle.plane.specs.Vectors.{scaled_vector}
 use Rattle.tri_core.specs.declared.half.Half.{Half}
 use Rattle.tri_core.specs.Triangulation.{IsTriangulation}
 use Rattle.tri_core.specs.Mapped.{AreMapped, AreMultiplied}
-use Rattle.tri_core.specs.Walks.{AreGlued}
 use Rattle.tri_core.proofs.Mapped.{changed_glued}
 use Rattle.tri_core.proofs.Bijections.{image_from_carried, carried_from_image}
 use Rattle.tri_core.proofs.equality.equal_by.Goals as goal
 
 pub are_carried-requires-clause-one : goal.are_carried-requires-clause-one
 are_carried-requires-clause-one c =
-    let d : ℕ = c.args.f.now in
-    let change = mapped (quad_ops d) (rows_of c.entries.result.now) in
     let from : List Half = c.halves.result.now in
     let valid : IsTriangulation c.args.from.now.field from = subst (IsTriangulation c.args.from.now.field) (sym c.halves.ensures.halves) c.halves.ensures.valid in
-    rw c.as_slice.ensures.value (changed_glued change from c.in_ok-one.one.items c.in_ok-one.ensures.mapped c.args.from.now.field valid)
+    rw c.as_slice.ensures.value (changed_glued _ from c.in_ok-one.one.items c.in_ok-one.ensures.mapped c.args.from.now.field valid)
 
 pub are_carried-requires-clause-two : goal.are_carried-requires-clause-two
 are_carried-requires-clause-two c =
-    let change = scaled_vector (to_z w128 (of_z w128 c.denominator.result)) in
     let to : List Half = c.halves-2.result.now in
     let valid : IsTriangulation c.args.to.now.field to = subst (IsTriangulation c.args.to.now.field) (sym c.halves-2.ensures.halves) c.halves-2.ensures.valid in
-    rw c.as_slice-2.ensures.value (changed_glued change to c.in_ok-two.two.items c.in_ok-two.ensures.multiplied c.args.to.now.field valid)
+    rw c.as_slice-2.ensures.value (changed_glued _ to c.in_ok-two.two.items c.in_ok-two.ensures.multiplied c.args.to.now.field valid)
 
 pub returns-clause-exact : goal.returns-clause-exact
 returns-clause-exact c =

@@ -1,5 +1,5 @@
-use Rattle.std.proofs.Common.{ℕ, ◌<◌, arith}
-use Rattle.tri_core.proofs.Walks.{image_next, image_first}
+use Rattle.std.proofs.Common.{◌<◌, arith}
+use Rattle.tri_core.proofs.Walks.{image_next}
 use Rattle.tri_core.proofs.equality.image_at.Goals as goal
 
 pub returns-clause-carried : goal.returns-clause-carried

@@ -1,4 +1,4 @@
-use Rattle.std.proofs.Common.{rules, ◌≡◌, ◌<◌, ◌≤◌, ◌/◌, ◌+◌, ◌∙◌, ap, subst, sym, [], ◌∷◌, ◌++◌, false, true, length, get_or, replicate, set, arith}
+use Rattle.std.proofs.Common.{rules, ◌≡◌, ◌<◌, ◌≤◌, ◌/◌, ◌∙◌, ap, sym, [], ◌∷◌, ◌++◌, false, length, get_or, replicate, arith}
 use Rattle.std.proofs.lemmas.List.{get_or_default}
 use Rattle.tri_core.proofs.Walks.{walk_start, start_marked, start_room, across_none, across_more, walk_whole}
 use Rattle.tri_core.proofs.walk.walk_over.Goals as goal

@@ -1,4 +1,4 @@
-use Rattle.std.proofs.Common.{ℕ, ◌-◌, ◌<◌, ◌≤◌, length, vec_len, vec_capacity}
+use Rattle.std.proofs.Common.{◌-◌, ◌≤◌, vec_len, vec_capacity}
 use Rattle.graph_search.specs.Search.{IsMarked, HasRoom}
 use Rattle.tri_core.specs.Walks.{IsWalkSoFar}
 use Rattle.tri_core.proofs.Walks.{AreAcross}
