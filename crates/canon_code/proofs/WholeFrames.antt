@@ -1,5 +1,5 @@
 -- Starts whose serial has the scale 1.
-use Rattle.std.proofs.Common.{◌≡◌, ◌≢◌, ℕ, zero, suc, ◌+◌, ◌*◌, ◌/◌, ◌<◌, List, [], ◌∷◌, ◌++◌, length, get_or, refl, sym, ap, ◌∙◌, subst, inl, inr, arith}
+use Rattle.std.proofs.Common.{◌≡◌, ℕ, ◌+◌, ◌*◌, ◌/◌, ◌<◌, List, [], ◌∷◌, length, refl, sym, ap, ◌∙◌, subst, inl, inr, arith}
 use mathlib.Core.Path.{ap₂}
 use Rattle.std.specs.Prelude.{ℤ, pos, ◌<ℤ◌}
 use Rattle.std.proofs.lemmas.Bool.{cases_eq}
@@ -12,7 +12,7 @@ use Rattle.rings.proofs.Solver.{identity}
 use Rattle.rings.proofs.Factors.{cancel_positive}
 use Rattle.quad_field.specs.declared.quad.Quad.{Quad}
 use Rattle.quad_field.specs.FieldNumber.{IsFieldNumber}
-use Rattle.quad_field.specs.Quads.{quad, quad_ops, scaled, IsPositive}
+use Rattle.quad_field.specs.Quads.{quad_ops, scaled}
 use Rattle.quad_field.proofs.CallerLemmas.{quad_ring, order_of, scaled_is, whole_positive}
 use Rattle.plane.specs.Vectors.{Vector, vector, det}
 use Rattle.tri_core.specs.declared.half.Half.{Half}
@@ -29,7 +29,6 @@ use Rattle.canon_code.proofs.Numberings.{one_place, one_number}
 use Rattle.canon_code.proofs.Serials.{twins_inside}
 use Rattle.canon_code.proofs.Least.{before_from_greater}
 use Rattle.canon_code.proofs.CodeExists.{before_from_number}
-use Rattle.canon_code.proofs.Compared.{differs, BeginsWith}
 
 -- a list that begins with these two numbers, and a serial with the same first number and a greater second one
 pub greater_scale : (best serial : List ℤ) (n m : ℕ) (rest : List ℤ) → 1 < length best → number_at best 0 ≡ pos n → number_at best 1 ≡ pos 1 → serial ≡ pos n ∷ pos m ∷ rest → 1 < m → IsBefore best serial

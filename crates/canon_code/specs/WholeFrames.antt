@@ -4,7 +4,7 @@ use Rattle.quad_field.specs.declared.quad.Quad.{Quad}
 use Rattle.quad_field.specs.Quads.{quad, quad_ops, scaled}
 use Rattle.plane.specs.Vectors.{Vector, vector, det}
 use Rattle.tri_core.specs.declared.half.Half.{Half}
-use Rattle.tri_core.specs.HalfEdges.{half_at, vector_at, next_of}
+use Rattle.tri_core.specs.HalfEdges.{vector_at, next_of}
 use Rattle.canon_code.specs.declared.coordinates.Frame.{Frame}
 use Rattle.canon_code.specs.Serials.{parts}
 use Rattle.canon_code.specs.Numbered.{entry}
