@@ -1,5 +1,5 @@
 -- The frame in lowest terms takes the canonical triangulation to the one that the serial is of.
-use Rattle.std.proofs.Common.{◌≡◌, ℕ, zero, suc, ◌*◌, ◌<◌, ◌≤◌, List, [], ◌∷◌, length, refl, sym, ap, ◌∙◌, subst, arith}
+use Rattle.std.proofs.Common.{◌≡◌, ℕ, zero, suc, ◌*◌, ◌<◌, List, [], ◌∷◌, length, refl, sym, ap, ◌∙◌, subst, arith}
 use mathlib.Core.Path.{ap₂}
 use Rattle.std.specs.Prelude.{ℤ, pos, ◌*ℤ◌, unsigned_abs}
 use Rattle.std.proofs.Math.Nat.{mul_comm, mul-zero}
@@ -7,7 +7,7 @@ use Rattle.rings.specs.Ring.{Ops, var, expr}
 use Rattle.rings.proofs.Solver.{identity}
 use Rattle.quad_field.specs.declared.quad.Quad.{Quad}
 use Rattle.quad_field.specs.FieldNumber.{IsFieldNumber}
-use Rattle.quad_field.specs.Quads.{quad_ops, scaled, IsPositive}
+use Rattle.quad_field.specs.Quads.{quad_ops}
 use Rattle.quad_field.proofs.CallerLemmas.{quad_ring, order_of, scaled_is, natural_positive}
 use Rattle.plane.specs.Vectors.{Vector}
 use Rattle.tri_core.specs.declared.half.Half.{Half}
@@ -21,7 +21,6 @@ use Rattle.canon_code.specs.Serials.{IsSerial}
 use Rattle.canon_code.specs.Canonical.{canonical, frame}
 use Rattle.rings.proofs.Factors.{cancel_positive}
 use Rattle.tri_core.proofs.CallerLemmas.{frame_carried}
-use Rattle.canon_code.proofs.Serials.{turn_at}
 use Rattle.canon_code.proofs.Canonical.{canonical_valid, canonical_serial, framed, as_many}
 use Rattle.canon_code.proofs.Reconstructed.{reconstructed, forth, back}
 

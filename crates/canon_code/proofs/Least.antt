@@ -1,5 +1,5 @@
 -- One more start.
-use Rattle.std.proofs.Common.{◌≡◌, ℕ, ◌+◌, ◌*◌, ◌/◌, ◌<◌, ◌≤◌, List, [], ◌∷◌, ◌++◌, length, get_or, refl, sym, ap, ◌∙◌, subst, inl, inr, arith}
+use Rattle.std.proofs.Common.{◌≡◌, ℕ, ◌+◌, ◌*◌, ◌/◌, ◌<◌, List, [], ◌∷◌, ◌++◌, length, get_or, refl, sym, ap, ◌∙◌, subst, inl, inr, arith}
 use Rattle.std.specs.Prelude.{ℤ, pos}
 use mathlib.Core.Path.{subst₂}
 use Rattle.std.specs.Ordering.{int_cmp, ordering_reverse}
@@ -31,7 +31,7 @@ not_before_itself xs h = let e : Less ≡ Equal = sym h ∙ tied_itself order xs
 not_both_before : (xs ys : List ℤ) → IsBefore xs ys → ¬ (IsBefore ys xs)
 not_both_before xs ys p q = not_before_itself xs (order.trans xs ys xs p q)
 
-before_from_greater : (xs ys : List ℤ) → slice_cmp int_cmp xs ys ≡ Greater → IsBefore ys xs
+pub before_from_greater : (xs ys : List ℤ) → slice_cmp int_cmp xs ys ≡ Greater → IsBefore ys xs
 before_from_greater xs ys e = order.antisymm ys xs ∙ ap ordering_reverse e
 
 pub equal_from_tie : (xs ys : List ℤ) → slice_cmp int_cmp xs ys ≡ Equal → xs ≡ ys

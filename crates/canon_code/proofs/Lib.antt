@@ -22,3 +22,4 @@ pub mod TextReadings
 pub mod Listings
 pub mod Refused
 pub mod Compared
+pub mod WholeFrames

@@ -1,12 +1,8 @@
 -- Why numbers aren't read as a code.
-use Rattle.std.proofs.Common.{rules, ◌≡◌, ℕ, zero, suc, ◌+◌, ◌*◌, ◌/◌, ◌%◌, ◌<◌, List, [], ◌∷◌, length, Result, Ok, Err, refl, sym, ap, ◌∙◌, subst, arith}
+use Rattle.std.proofs.Common.{rules, ◌≡◌, ℕ, zero, suc, ◌+◌, ◌*◌, ◌/◌, ◌%◌, ◌<◌, List, length, Result, Ok, Err, refl, sym, ap, ◌∙◌, subst, arith}
 use Rattle.std.specs.Prelude.{ℤ, pos, neg_ℤ, ◌+ℤ◌, unsigned_abs, IfOk, IfErr, MatchResult, ◌⊎◌}
 use mathlib.Core.Logic.{inl, inr}
-use mathlib.Core.Path.{subst₂}
 use Rattle.rings.proofs.WholeNumbers.{whole_ring}
-use Rattle.quad_field.specs.declared.quad.Quad.{Quad}
-use Rattle.quad_field.specs.declared.formula.Formula.{Formula}
-use Rattle.quad_field.specs.declared.formula.Formula.TheVariants.{F13}
 use Rattle.quad_field.specs.FieldNumber.{IsFieldNumber}
 use Rattle.quad_field.specs.Width.{Term, term_ops, FitsI128, StepsFit}
 use Rattle.plane.specs.Vectors.{Vector, det, vector_sum, vector_term, VectorFits}
@@ -19,9 +15,9 @@ use Rattle.tri_core.specs.Refusals as tri_refusals
 use Rattle.canon_code.specs.declared.fault.CodeFault.{CodeFault}
 use Rattle.canon_code.specs.declared.fault.CodeFault.TheVariants.{Form, NotCode, Wide, Memory}
 use Rattle.canon_code.specs.Codes.{IsCode}
-use Rattle.canon_code.specs.Canonical.{number_at, vector_from, side_from, half_of, canonical, canonical_half, IsMade}
-use Rattle.canon_code.specs.CodeText.{numbers_text, Lists}
-use Rattle.canon_code.specs.Refusals.{IsCodeOver, HasSerialLength, term_from, SidesFit, HasWideSides, ListsTriangulation, IsCause, IsFree}
+use Rattle.canon_code.specs.Canonical.{number_at, vector_from, side_from, half_of, canonical, IsMade}
+use Rattle.canon_code.specs.CodeText.{Lists}
+use Rattle.canon_code.specs.Refusals.{IsCodeOver, HasSerialLength, term_from, HasWideSides, ListsTriangulation, IsCause, IsFree}
 use Rattle.canon_code.specs.TextReading.{IsTextFault}
 use Rattle.canon_code.specs.Listing.{IsTwinNumber, HasTwins, HasThird, IsListingFault, IsFaultOf}
 use Rattle.canon_code.proofs.Canonical.{canonical_valid}

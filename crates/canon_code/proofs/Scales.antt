@@ -1,19 +1,18 @@
 -- The least scale: what is left over one denominator after all that is common was cancelled.
 use Rattle.std.proofs.Common.{◌≡◌, ℕ, zero, suc, ◌+◌, ◌*◌, ◌-◌, ◌/◌, ◌<◌, ◌≤◌, List, [], ◌∷◌, length, get_or, refl, sym, ap, ◌∙◌, subst, inl, inr, arith}
-use Rattle.std.specs.Prelude.{ℤ, pos, negsuc, ◌+ℤ◌, ◌*ℤ◌, ◌<ℤ◌, map, unsigned_abs, ◌⊎◌}
+use Rattle.std.specs.Prelude.{ℤ, pos, ◌*ℤ◌, ◌<ℤ◌, map, unsigned_abs, ◌⊎◌}
 use mathlib.Core.Path.{ap₂}
 use Prim.Native.Nat.{◌∣◌}
 use native.Mathlib.Nat.{dvd_refl, dvd-zero, dvd-add, dvd-sub, dvd-mul_left, dvd-mul_right, dvd_of_mul-dvd-mul_left, le_of_dvd, mul-div_cancel', pos_of_dvd_of_pos}
 use Rattle.std.proofs.Math.Nat.{mul-sub, mul_comm}
 use Rattle.std.proofs.lemmas.Bool.{cases_eq, cases_lt}
-use Rattle.std.proofs.lemmas.Int.{ints, unsigned_abs-mul}
+use Rattle.std.proofs.lemmas.Int.{unsigned_abs-mul}
 use Rattle.std.proofs.lemmas.List.{get_or-map, length-map, get_or_default}
-use Rattle.rings.specs.Ring.{Ops, var, expr, whole_ops}
-use Rattle.rings.proofs.WholeNumbers.{whole_ring}
+use Rattle.rings.specs.Ring.{Ops, var, expr}
 use Rattle.rings.proofs.Solver.{identity}
 use Rattle.quad_field.specs.declared.quad.Quad.{Quad}
 use Rattle.quad_field.specs.FieldNumber.{IsFieldNumber}
-use Rattle.quad_field.specs.Quads.{quad, quad_ops, scaled, IsPositive}
+use Rattle.quad_field.specs.Quads.{quad_ops, scaled, IsPositive}
 use Rattle.quad_field.specs.Content.{DividesParts, DividesAll}
 use Rattle.quad_field.proofs.CallerLemmas.{quad_ring, order_of, scaled_is, whole_positive}
 use Rattle.plane.specs.Vectors.{Vector, det}

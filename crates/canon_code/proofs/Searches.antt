@@ -1,9 +1,9 @@
 -- The steps of a breadth-first search, and that it numbers all half-edges.
-use Rattle.std.proofs.Common.{◌≡◌, ℕ, ◌+◌, ◌*◌, ◌/◌, ◌%◌, ◌<◌, ◌≤◌, Bool, true, false, not, IsTrue, ltb, List, length, refl, sym, ap, ◌∙◌, subst, inl, inr, arith}
+use Rattle.std.proofs.Common.{◌≡◌, ℕ, ◌+◌, ◌*◌, ◌/◌, ◌%◌, ◌<◌, ◌≤◌, ltb, List, length, sym, ap, ◌∙◌, subst, inl, inr, arith}
 use Rattle.std.proofs.lemmas.Bool.{cases_eq, cases_lt, ltb-true, lt-ltb}
 use Rattle.tri_core.specs.declared.half.Half.{Half}
 use Rattle.tri_core.specs.HalfEdges.{twin_at, next_of, triangle_of}
-use Rattle.tri_core.specs.Triangulation.{IsTriangle, IsTriangulation, IsClosedUnderTwins}
+use Rattle.tri_core.specs.Triangulation.{IsTriangulation}
 use Rattle.canon_code.specs.Numberings.{IsNumbering, IsFoundFrom}
 use Rattle.canon_code.specs.Search.{IsSearch, IsAppended}
 use Rattle.tri_core.proofs.CallerLemmas.{joined_from}

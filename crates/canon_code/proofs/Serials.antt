@@ -1,5 +1,5 @@
 -- Serials: carried by images, and one for each start.
-use Rattle.std.proofs.Common.{◌≡◌, ℕ, zero, suc, ◌*◌, ◌/◌, ◌%◌, ◌<◌, ◌≤◌, List, ◌∷◌, length, refl, sym, ap, ◌∙◌, subst, arith}
+use Rattle.std.proofs.Common.{◌≡◌, ℕ, ◌*◌, ◌/◌, ◌%◌, ◌<◌, List, ◌∷◌, length, refl, sym, ap, ◌∙◌, subst, arith}
 use Rattle.std.specs.Prelude.{ℤ, pos}
 use mathlib.Core.Path.{ap₂}
 use native.Mathlib.Nat.{le_antisymm}
@@ -13,7 +13,7 @@ use Rattle.tri_core.specs.HalfEdges.{vector_at, twin_at, next_of}
 use Rattle.tri_core.specs.Triangulation.{IsTriangulation}
 use Rattle.tri_core.proofs.CallerLemmas.{triple_at, image_turns_left}
 use Rattle.rings.specs.Vectors.{multiple_vector}
-use Rattle.rings.specs.Matrices.{Matrix, mapped, matrix_det}
+use Rattle.rings.specs.Matrices.{Matrix, mapped}
 use Rattle.tri_core.specs.Images.{IsImage}
 use Rattle.canon_code.specs.Numberings.{IsNumbering}
 use Rattle.canon_code.specs.Serials.{IsWrittenAt, IsScale, IsLeastScale, rows, IsSerial}

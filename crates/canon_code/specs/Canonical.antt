@@ -1,5 +1,5 @@
 -- The canonical triangulation of a code, and the frame of a start.
-use Rattle.std.specs.Prelude.{◌≡◌, ℕ, ℤ, zero, suc, pos, ◌+◌, ◌*◌, ◌/◌, ◌%◌, ◌<◌, length, List, map, get_or, unsigned_abs}
+use Rattle.std.specs.Prelude.{ℕ, ℤ, zero, suc, pos, ◌+◌, ◌*◌, ◌/◌, ◌%◌, ◌<◌, length, List, map, get_or, unsigned_abs}
 use Rattle.std.specs.List.{range_with_len}
 use Rattle.quad_field.specs.Quads.{quad, quad_ops}
 use Rattle.quad_field.specs.declared.quad.Quad.{Quad}

@@ -13,3 +13,4 @@ pub mod Refusals
 pub mod TextReading
 pub mod Listing
 pub mod Tries
+pub mod WholeFrames

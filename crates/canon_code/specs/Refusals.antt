@@ -1,6 +1,5 @@
 -- Why a text isn't read as a code.
 use Rattle.std.specs.Prelude.{◌≡◌, ℕ, ℤ, pos, ◌+◌, ◌*◌, ◌/◌, ◌%◌, ◌<◌, ◌≤◌, List, length, ⊤}
-use Rattle.quad_field.specs.declared.quad.Quad.{Quad}
 use Rattle.quad_field.specs.declared.formula.Formula.{Formula}
 use Rattle.quad_field.specs.declared.formula.Formula.TheVariants.{F1, F13}
 use Rattle.quad_field.specs.Width.{Term, number, term_ops, StepsFit}

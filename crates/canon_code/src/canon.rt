@@ -7,12 +7,13 @@ ghost use Rattle.canon_code.specs.Codes.{IsCode, AreStarts};
 ghost use Rattle.canon_code.specs.Least.{IsBestTo};
 ghost use Rattle.canon_code.specs.Canonical.{canonical, frame, ThirdVectorsFit, IsMade};
 ghost use Rattle.canon_code.specs.Tries.{IsTried, tried_serial};
-ghost use Rattle.canon_code.specs.FrameWidth.{HasWideFrame};
+ghost use Rattle.canon_code.specs.FrameWidth.{FrameFits, HasWideFrame};
 ghost use Rattle.canon_code.specs.declared.fault.CanonFault.TheVariants.{Wide};
 
 use super::coordinates::Coordinates;
 use super::numbering::Numbering;
 use super::serial::{Tried, order_of, serial_of, tried_at};
+use super::whole::given_up;
 use super::{CanonFault, Code};
 use plane::Mat2;
 use quad_field::Field;
@@ -81,6 +82,33 @@ fn better(f: &Field, tri: &Tri, tried: &Tried, h: u32, best: Best) -> Result<Bes
     }
 }
 
+/// The better of the best and start h, which is tried in the lists of an earlier start.
+fn next(f: &Field, tri: &Tri, h: u32, old: Tried, best: Best) -> Result<(Tried, Best), CanonFault>
+    requires field { f.now ≡ tri.now.field }
+    requires half { h < length tri.now.halves }
+    requires best { IsBestTo f.now tri.now.halves h best.serial.items best.starts.items }
+    ensures best { IfOk result (λ r. IsBestTo f.now tri.now.halves (h + 1) r.1.serial.items r.1.starts.items) }
+    ensures wide { IfErr result (λ fault. fault ≡ Wide → ¬ (FrameFits f.now tri.now.halves h)) }
+{
+    let _number = f.number();
+    let _count = tri.triangles();
+    let coordinates = old.coordinates;
+    let (numbering, after) = given_up(f, tri, h, old.numbering, best.serial.as_slice())?;
+    let old = Tried {
+        numbering,
+        coordinates,
+    };
+    if after {
+        return Ok((old, best));
+    }
+    let tried = match tried_at(f, tri, h, old) {
+        Ok(tried) => tried,
+        Err(fault) => return Err(fault),
+    };
+    let best = better(f, tri, &tried, h, best)?;
+    Ok((tried, best))
+}
+
 /// The least serial over all starts, with its starts. The lists of the best start and of the one that is tried are kept.
 pub fn best_of(alloc: Global, f: &Field, tri: &Tri) -> Result<Best, CanonFault>
     requires { f.now ≡ tri.now.field }
@@ -99,11 +127,10 @@ pub fn best_of(alloc: Global, f: &Field, tri: &Tri) -> Result<Best, CanonFault>
     let starts = Vec::with_capacity(alloc, count as usize)?;
     let mut best = only(f, tri, &tried, 0, Best { serial, starts })?;
     for h in 1..count {
-        tried = match tried_at(f, tri, h, tried) {
-            Ok(tried) => tried,
+        (tried, best) = match next(f, tri, h, tried, best) {
+            Ok(both) => both,
             Err(fault) => return Err(fault),
         };
-        best = better(f, tri, &tried, h, best)?;
     }
     Ok(best)
 }

@@ -12,6 +12,7 @@ mod reader;
 mod serial;
 mod text;
 mod triangulation;
+mod whole;
 
 pub use canon::{Canon, canon_of};
 pub use code::Code;

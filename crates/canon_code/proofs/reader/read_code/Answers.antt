@@ -1,7 +1,6 @@
-use Rattle.std.proofs.Common.{List, sym, subst, Err}
-use Rattle.std.specs.Prelude.{ℤ}
+use Rattle.std.proofs.Common.{sym, subst, Err}
 use Rattle.canon_code.specs.CodeText.{Lists}
-use Rattle.canon_code.proofs.Refused.{read_ok, read_err, text_cause, form_from, taken_from, refused_from}
+use Rattle.canon_code.proofs.Refused.{read_ok, read_err, text_cause, taken_from, refused_from}
 use Rattle.canon_code.proofs.reader.read_code.Goals as goal
 
 pub returns-in-Ok-clause-taken : goal.returns-in-Ok-clause-taken

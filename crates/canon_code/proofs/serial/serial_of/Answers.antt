@@ -1,4 +1,4 @@
-use Rattle.std.proofs.Common.{rules, ◌≡◌, ◌/◌, ◌++◌, ◌∷◌, [], ℕ, List, length, of_z, to_z, sym, ap, ◌∙◌, subst, arith, ◌*◌, ◌+◌, ◌<◌, suc}
+use Rattle.std.proofs.Common.{rules, ◌≡◌, ◌/◌, ◌++◌, ◌∷◌, ℕ, List, length, of_z, to_z, sym, ap, ◌∙◌, subst, arith, ◌*◌, ◌+◌, ◌<◌, suc}
 use Rattle.std.specs.Prelude.{ℤ, pos, unsigned_abs, FitsSigned}
 use Rattle.std.specs.Int.{w128}
 use Rattle.std.proofs.lemmas.Int.{to_z-of_z}
@@ -7,7 +7,6 @@ use Rattle.canon_code.specs.Serials.{row, rows}
 use Rattle.std.proofs.lemmas.List.{append_assoc}
 use Rattle.std.proofs.lemmas.Bool.{cases_eq}
 use mathlib.Core.Logic.{inl, inr}
-use Rattle.canon_code.proofs.serial.serial_of.Invariants.{IsWrittenTo}
 use Rattle.canon_code.specs.Listed.{written_by, twin_by}
 use Rattle.canon_code.specs.Tries.{tried_serial}
 use Rattle.plane.specs.Vectors.{Vector}

@@ -1,4 +1,4 @@
-use Rattle.std.proofs.Common.{◌≡◌, ◌+◌, ◌*◌, ℕ, List, arith, sym, ◌∙◌}
+use Rattle.std.proofs.Common.{◌+◌, ◌*◌, ℕ, List, arith, sym, ◌∙◌}
 use Rattle.std.specs.Prelude.{ℤ}
 use mathlib.Core.Path.{ap₂}
 use Rattle.quad_field.specs.declared.quad.Quad.{Quad}
