@@ -1,11 +1,10 @@
 -- The arithmetic of small K-integers in 64 bits and in 128, and the triples of hinges of such.
-use Rattle.std.proofs.Common.{◌≡◌, ℕ, zero, suc, ◌+◌, ◌*◌, ◌^◌, ◌<◌, ◌≤◌, [], ◌∷◌, to_z, of_z, arith, refl, ap, sym, subst, ◌∙◌}
-use Rattle.std.specs.Prelude.{ℤ, pos, ◌+ℤ◌, ◌-ℤ◌, ◌*ℤ◌, unsigned_abs, FitsSigned}
-use Rattle.std.specs.Int.{w64, w128}
-use Rattle.std.proofs.lemmas.Int.{ints, to_z-of_z}
+use Rattle.std.proofs.Common.{◌≡◌, ℕ, zero, suc, ◌+◌, ◌*◌, ◌^◌, ◌<◌, ◌≤◌, [], ◌∷◌, arith, ap, sym, subst, ◌∙◌}
+use Rattle.std.specs.Prelude.{ℤ, pos, ◌+ℤ◌, ◌-ℤ◌, ◌*ℤ◌, unsigned_abs}
+use Rattle.std.proofs.lemmas.Int.{ints}
 use Rattle.std.proofs.lemmas.Nat.{mul-le}
 use Rattle.rings.specs.Ring.{Expr, var, expr, whole_ops}
-use Rattle.rings.specs.Forms.{det, difference_of_products, turn_times, weighted_triple, hinge_triple}
+use Rattle.rings.specs.Forms.{hinge_triple}
 use Rattle.rings.proofs.Solver.{identity}
 use Rattle.rings.proofs.WholeNumbers.{whole_ring}
 use Rattle.quad_field.specs.declared.quad.Quad.{Quad}

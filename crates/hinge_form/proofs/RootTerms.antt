@@ -1,13 +1,13 @@
 -- Formulas at K-integers with bounded parts: where they can't leave 128 bits by the size of the parts, no step of them is wide.
-use Rattle.std.proofs.Common.{◌≡◌, ℕ, suc, ◌+◌, ◌*◌, ◌^◌, ◌<◌, ◌≤◌, arith, refl, ap, sym, subst, ◌∙◌}
-use Rattle.std.specs.Prelude.{ℤ, pos, ◌+ℤ◌, ◌-ℤ◌, ◌*ℤ◌, neg_ℤ, unsigned_abs}
+use Rattle.std.proofs.Common.{◌≡◌, ℕ, suc, ◌+◌, ◌*◌, ◌^◌, ◌<◌, ◌≤◌, arith, refl, ap, sym, subst}
+use Rattle.std.specs.Prelude.{ℤ, pos, ◌+ℤ◌, ◌*ℤ◌, unsigned_abs}
 use mathlib.Core.Path.{ap₂, subst₂}
-use Rattle.std.proofs.lemmas.Int.{ints, unsigned_abs-mul}
+use Rattle.std.proofs.lemmas.Int.{ints}
 use Rattle.std.proofs.lemmas.Nat.{mul-le}
 use Rattle.rings.specs.Ring.{Expr, var, int, add, sub, mul, neg, eval}
 use Rattle.quad_field.specs.declared.quad.Quad.{Quad}
 use Rattle.quad_field.specs.Quads.{quad, quad_ops, product}
-use Rattle.quad_field.specs.Width.{number, term_ops, value_of, FitsI128, PartsFit, AllFit, product_steps, StepsFit}
+use Rattle.quad_field.specs.Width.{value_of, FitsI128, PartsFit, AllFit, product_steps, StepsFit}
 use Rattle.hinge_form.specs.Small.{PartsWithin}
 use Rattle.hinge_form.proofs.WholeTerms.{tree, times_size}
 

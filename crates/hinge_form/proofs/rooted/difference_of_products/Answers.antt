@@ -1,6 +1,6 @@
 use Rattle.std.proofs.Common.{◌^◌, arith}
 use Rattle.hinge_form.specs.Small.{quad_of}
-use Rattle.hinge_form.proofs.RootHinges.{product_small, difference_small, smaller}
+use Rattle.hinge_form.proofs.RootHinges.{product_small, difference_small}
 use Rattle.hinge_form.proofs.rooted.difference_of_products.Goals as goal
 
 pub long_difference-requires-clause-first : goal.long_difference-requires-clause-first
