@@ -13,4 +13,6 @@ pub mod Chords
 pub mod WallPoints
 pub mod WholeTerms
 pub mod SmallHinges
+pub mod RootTerms
+pub mod RootHinges
 pub mod CallerLemmas

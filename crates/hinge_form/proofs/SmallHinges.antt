@@ -34,7 +34,7 @@ pub record Stands (code n : ℤ) (r : ℕ) : Type 0 where
   pub exact : read code ≡ n
   pub within : unsigned_abs (read code) ≤ r
 
-stands : (code n : ℤ) (r : ℕ) → code ≡ n → unsigned_abs n ≤ r → r ≤ 2 ^ 62 → Stands code n r
+pub stands : (code n : ℤ) (r : ℕ) → code ≡ n → unsigned_abs n ≤ r → r ≤ 2 ^ 62 → Stands code n r
 stands code n r e s h =
     let exact = ap read e ∙ read_small n r s h in
     record { fits = subst (FitsSigned w64) (sym e) (fits_small n r s h); exact = exact; within = subst (λ z. unsigned_abs z ≤ r) (sym exact) s }
@@ -209,7 +209,7 @@ module _ (n : ℕ) (l q : Triple) (sl : IsWholeTriple (2 ^ 62) l) (sq : IsWholeT
 abbrev pub read_128 : ℤ → ℤ
 read_128 n = to_z w128 (of_z w128 n)
 
-read_wide : (n : ℤ) (r : ℕ) → unsigned_abs n ≤ r → r ≤ 2 ^ 126 → read_128 n ≡ n
+pub read_wide : (n : ℤ) (r : ℕ) → unsigned_abs n ≤ r → r ≤ 2 ^ 126 → read_128 n ≡ n
 read_wide n r s h = to_z-of_z w128 n (omega (arith, ints))
 
 -- the product of two numbers of medium size, by one multiplication of 64 bits

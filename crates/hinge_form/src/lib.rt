@@ -8,6 +8,7 @@ pub mod laws;
 mod lines;
 mod place;
 mod reduced;
+mod rooted;
 mod small;
 mod triples;
 mod values;

@@ -174,7 +174,7 @@ pub fn small_triple(a: &Vec2, c: &Vec2, d: &Vec2) -> Form
 
 /// m·n, by one multiplication of 64 bits.
 #[inline]
-fn times(m: i64, n: i64) -> i128
+pub fn times(m: i64, n: i64) -> i128
     ensures { result ≡ m *ℤ n }
 {
     i128::from(m) * i128::from(n)

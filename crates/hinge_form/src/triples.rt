@@ -8,6 +8,7 @@ ghost use Rattle.plane.specs.Vectors.{vector, vector_term, VectorFits};
 ghost use Rattle.hinge_form.specs.Triples.{of_form, AllThreeFit};
 
 use super::Form;
+use super::rooted::{have_small_parts, rooted_triple};
 use super::small::{have_small, small_triple};
 use plane::{Vec2, det};
 use quad_field::{Field, Quad, TooWide};
@@ -100,6 +101,9 @@ pub fn triple_of(f: &Field, a: &Vec2, c: &Vec2, d: &Vec2) -> Result<Form, TooWid
 {
     if have_small(a, c, d) {
         return Ok(small_triple(a, c, d));
+    }
+    if have_small_parts(f.number(), a, c, d) {
+        return Ok(rooted_triple(f.number(), a, c, d));
     }
     long_way(f, a, c, d)
 }
