@@ -8,4 +8,3 @@ mod steps;
 
 pub use fault::WalkFault;
 pub use steps::walk;
-

@@ -38,13 +38,7 @@ pub fn walk(alloc: Global, f: &Field, tri: &Tri, choices: &[u32]) -> Result<Tri,
 }
 
 /// Crosses wall number `choice`, the choice at this place of a walk.
-fn step(
-    alloc: Global,
-    f: &Field,
-    at: &mut Tri,
-    choice: u32,
-    place: u32,
-) -> Result<(), WalkFault>
+fn step(alloc: Global, f: &Field, at: &mut Tri, choice: u32, place: u32) -> Result<(), WalkFault>
     requires { f.now ≡ at.old.field }
     ensures field { OnOk result (at.new.field ≡ at.old.field) }
     ensures crossed { OnOk result (LiesBehindWall at.old.field at.old.halves choice at.new.halves) }

@@ -39,12 +39,7 @@ pub(crate) fn path(
 }
 
 /// The walk from a triangulation, as `path` prints it.
-fn path_from(
-    alloc: Global,
-    f: &Field,
-    tri: &Tri,
-    choices: &[u32],
-) -> Result<Vec<u8>, Refusal>
+fn path_from(alloc: Global, f: &Field, tri: &Tri, choices: &[u32]) -> Result<Vec<u8>, Refusal>
     requires field { f.now ≡ tri.now.field }
     requires few { length choices.now ≤ 4096 }
     ensures answer { IfOk result (λ text. IsPathAnswer tri.now.field choices.now tri.now.halves Done text.items) }

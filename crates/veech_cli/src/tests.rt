@@ -93,6 +93,21 @@ const GOLDEN_REGION: &[u8] =
 const PENTAGON_REGION: &[u8] =
     b"region 3\nwall 1 1 0 edges 1 3 7\nwall 1 -1-1r 0 edges 2 11\nwall -1-1r 0 1+1r edges 5 14\nideal 0 1 0 0 2+1r\nideal 0 2 1+1r -1-1r 1+1r\ninner 1 2 6+2r 1+1r 6+2r\nend\n";
 
+/// The line of the one class of the square torus.
+const TORUS_CLASS: &[u8] = b"class 2 1 1 0 0 0 0 0 1 0 3 4 5 -1 0 0 0 0 0 -1 0 0 1 2\n";
+
+/// That of the one class of three squares in an L.
+const L_CLASS: &[u8] =
+    b"class 6 1 1 0 0 0 0 0 1 0 3 4 6 -1 0 0 0 0 0 -1 0 0 1 9 1 0 1 0 -1 0 0 0 2 10 12 -1 0 -1 0 1 0 0 0 5 7 15 0 0 1 0 -1 0 -1 0 8 16 17 0 0 -1 0 1 0 1 0 11 13 14\n";
+
+/// That of the one class of two squares in a row.
+const ROW_CLASS: &[u8] =
+    b"class 4 1 1 0 0 0 0 0 1 0 3 4 6 -1 0 0 0 0 0 -1 0 0 1 9 1 0 1 0 -1 0 0 0 2 10 11 -1 0 -1 0 1 0 0 0 5 7 8\n";
+
+/// A walk of 200 crossings from the base of the square torus, and the same walls back.
+const THERE_AND_BACK: &[u8] =
+    b"0220121220200000021220022221122101000101221122122122122221222222221010100111002201221212222102212222221122221221122222212212202011211221010112111002222021001222112100122211000220112211111121111100022222200011111211111122110220001122210012112221001202222001112110101221121102022122122222211221222211222222122012222121221022001110010101222222221222212212212211221010001012211222200221200000020221210220";
+
 /// How the ends of a run behave: the most that a call moves, the source's call that fails, and the sink's room.
 #[derive(Clone, Copy)]
 struct Ends {
@@ -273,7 +288,7 @@ fn checks_every_example(rt: HostRuntime) -> Result<(), Fail> {
 
 #[test]
 fn refuses_words(rt: HostRuntime) -> Result<(), Fail> {
-    let rows: [&[&str]; 38] = [
+    let rows: [&[&str]; 44] = [
         &[],
         &["check", "check"],
         &["plan"],
@@ -312,6 +327,12 @@ fn refuses_words(rt: HostRuntime) -> Result<(), Fail> {
         &["base", "--flips", "5", "5"],
         &["region", "--limit", "5"],
         &["reg"],
+        &["path", "1000"],
+        &["path", "02"],
+        &["path", "-1"],
+        &["path", "2", "--flips", "5"],
+        &["path", "2", ""],
+        &["path", "--flips", "5", "--flips=5", "2"],
     ];
     for words in rows {
         let (ended, written) = run(rt.alloc(), words, TORUS, moving(4096))?;
@@ -593,5 +614,180 @@ fn finds_the_base_of_three_squares(rt: HostRuntime) -> Result<(), Fail> {
     assert!(rt; written.starts_with(b"base 1/10 11/10\nflips 3\nhalf 0 "));
     assert!(rt; written.ends_with(b"\nend\n"));
     assert_eq!(rt; written.iter().filter(|byte| **byte == b'\n').count(), 21);
+    Ok(())
+}
+
+/// The words of `path` with these choices, a digit each.
+fn path_words<'a>(alloc: Global, choices: &[u8]) -> Result<Vec<&'a str>, AllocError> {
+    let mut words = Vec::with_capacity(alloc, choices.len() + 1)?;
+    words.push("path")?;
+    for choice in choices {
+        words.push(match *choice {
+            b'0' => "0",
+            b'1' => "1",
+            _ => "2",
+        })?;
+    }
+    Ok(words)
+}
+
+/// What `path` writes of a walk with this many choices, its line of whether it came back and the line of its class.
+fn walk_lines(
+    alloc: Global,
+    choices: &str,
+    same: &str,
+    class: &[u8],
+) -> Result<Vec<u8>, AllocError> {
+    let mut text = Vec::from_slice(alloc, b"path ")?;
+    text.extend_from_slice(choices.as_bytes())?;
+    text.extend_from_slice(b"\nsame ")?;
+    text.extend_from_slice(same.as_bytes())?;
+    text.extend_from_slice(b"\n")?;
+    text.extend_from_slice(class)?;
+    text.extend_from_slice(b"end\n")?;
+    Ok(text)
+}
+
+#[test]
+fn walks_through_walls(rt: HostRuntime) -> Result<(), Fail> {
+    let alloc = rt.alloc();
+    let rows: [(&[&str], &[u8], &str, &str, &[u8]); 9] = [
+        (&["path"], TORUS, "0", "yes", TORUS_CLASS),
+        (&["path", "2"], TORUS, "1", "no", TORUS_CLASS),
+        (&["path", "2", "2"], TORUS, "2", "yes", TORUS_CLASS),
+        (
+            &["path", "--flips", "1", "0", "1"],
+            TORUS,
+            "2",
+            "no",
+            TORUS_CLASS,
+        ),
+        (&["path"], L_THREE_SQUARES, "0", "yes", L_CLASS),
+        (&["path", "0"], L_THREE_SQUARES, "1", "no", L_CLASS),
+        (
+            &["path", "--flips=3", "0", "0"],
+            L_THREE_SQUARES,
+            "2",
+            "yes",
+            L_CLASS,
+        ),
+        (&["path"], TWO_SQUARES, "0", "yes", ROW_CLASS),
+        (&["path", "1"], TWO_SQUARES, "1", "no", ROW_CLASS),
+    ];
+    for (words, input, choices, same, class) in rows {
+        let (ended, written) = run(alloc, words, input, moving(4096))?;
+        assert_eq!(rt; ended, 0);
+        let text = walk_lines(alloc, choices, same, class)?;
+        assert_eq!(rt; written.as_slice(), text.as_slice());
+    }
+    Ok(())
+}
+
+#[test]
+fn walks_there_and_back(rt: HostRuntime) -> Result<(), Fail> {
+    let alloc = rt.alloc();
+    let most = vec![in alloc; b'2'; 4096]?;
+    let rows: [(&[u8], &str, &str); 3] = [
+        (THERE_AND_BACK, "400", "yes"),
+        (&THERE_AND_BACK[..200], "200", "no"),
+        (most.as_slice(), "4096", "yes"),
+    ];
+    for (choices, count, same) in rows {
+        let words = path_words(alloc, choices)?;
+        let (ended, written) = run(alloc, words.as_slice(), TORUS, moving(4096))?;
+        assert_eq!(rt; ended, 0);
+        let text = walk_lines(alloc, count, same, TORUS_CLASS)?;
+        assert_eq!(rt; written.as_slice(), text.as_slice());
+    }
+    Ok(())
+}
+
+#[test]
+fn refuses_walks(rt: HostRuntime) -> Result<(), Fail> {
+    let alloc = rt.alloc();
+    let rows: [(&[&str], &[u8], u8, &[u8]); 7] = [
+        (&["path", "3"], TORUS, 11, b"no wall 0\n"),
+        (&["path", "2", "3", "999"], TORUS, 11, b"no wall 1\n"),
+        (
+            &["path", "0", "0", "0", "3"],
+            L_THREE_SQUARES,
+            11,
+            b"no wall 3\n",
+        ),
+        (
+            &["path", "0"],
+            LARGE_TORUS,
+            6,
+            b"fault wide F2 flips 0 edge 0\n",
+        ),
+        (&["path", "0"], WIDE_OCTAGON, 6, b"fault wide F6 walk 0\n"),
+        (
+            &["path", "--flips=4", "0"],
+            SHEARED_TORUS,
+            5,
+            b"fault flips 1/10 11/10\n",
+        ),
+        (&["path", "0"], b"", 3, b"fault file 1 1 NoLine\n"),
+    ];
+    for (words, input, status, text) in rows {
+        let (ended, written) = run(alloc, words, input, moving(4096))?;
+        assert_eq!(rt; ended, status);
+        assert_eq!(rt; written.as_slice(), text);
+    }
+    Ok(())
+}
+
+#[test]
+fn crosses_every_wall_and_back(rt: HostRuntime) -> Result<(), Fail> {
+    let alloc = rt.alloc();
+    let examples = [
+        TORUS,
+        L_THREE_SQUARES,
+        FLAT_CORNERS,
+        OCTAGON,
+        GOLDEN_L,
+        DOUBLE_PENTAGON,
+    ];
+    for input in examples {
+        for wall in [b"0", b"1", b"2"] {
+            let mut came_back = false;
+            for back in [b"0", b"1", b"2"] {
+                let words = path_words(alloc, &[wall[0], back[0]])?;
+                let (ended, written) = run(alloc, words.as_slice(), input, moving(4096))?;
+                assert_eq!(rt; ended, 0);
+                came_back = came_back || written.as_slice().starts_with(b"path 2\nsame yes\n");
+            }
+            assert!(rt; came_back);
+        }
+    }
+    Ok(())
+}
+
+#[test]
+fn refuses_long_words(rt: HostRuntime) -> Result<(), Fail> {
+    let alloc = rt.alloc();
+    let too_many = vec![in alloc; b'2'; 4097]?;
+    let words = path_words(alloc, too_many.as_slice())?;
+    let (ended, written) = run(alloc, words.as_slice(), TORUS, moving(4096))?;
+    assert_eq!(rt; ended, 2);
+    assert_eq!(rt; written.as_slice(), b"fault words\n".as_slice());
+
+    let mut options = Vec::with_capacity(alloc, 5001)?;
+    options.push("base")?;
+    while options.len() < 5001 {
+        options.push("--flips=5")?;
+    }
+    let (ended, written) = run(alloc, options.as_slice(), TORUS, moving(4096))?;
+    assert_eq!(rt; ended, 2);
+    assert_eq!(rt; written.as_slice(), b"fault words\n".as_slice());
+
+    let digits = String::from_utf8(vec![in alloc; b'1'; 100_000]?)?;
+    let mut option = String::from_str(alloc, "--flips=")?;
+    option.push_str(digits.as_str())?;
+    for words in [["check", digits.as_str()], ["base", option.as_str()]] {
+        let (ended, written) = run(alloc, &words, TORUS, moving(4096))?;
+        assert_eq!(rt; ended, 2);
+        assert_eq!(rt; written.as_slice(), b"fault words\n".as_slice());
+    }
     Ok(())
 }

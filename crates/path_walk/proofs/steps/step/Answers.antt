@@ -22,8 +22,8 @@ pub returns-in-Some-clause-fault : goal.returns-in-Some-clause-fault
 returns-in-Some-clause-fault c = (
   refl,
   subst (λ (formula : Formula). IsWideChoice formula c.args.at.now.field c.args.at.now.halves c.args.choice) (sym c.in-Err-cross_in_place.ensures.wide.0)
-  (at_chosen c.args.at.now.field c.args.at.now.halves c.in-Ok.walls.items c.as_slice.result.now c.as_slice.ensures.value c.in-Ok.ensures.walls c.args.choice
-  c.in-Some.wall.now _ (search rules) c.in-Some.ensures.lookup.1
-  (λ edges. ¬ (DiagonalsFit c.args.at.now.field c.args.at.now.halves edges))
-  (λ fits. absurd (true≢false (sym (c.in-Err-cross_in_place.ensures.fits.1 fits))))),
+      (at_chosen c.args.at.now.field c.args.at.now.halves c.in-Ok.walls.items c.as_slice.result.now c.as_slice.ensures.value c.in-Ok.ensures.walls c.args.choice
+      c.in-Some.wall.now _ (search rules) c.in-Some.ensures.lookup.1
+      (λ edges. ¬ (DiagonalsFit c.args.at.now.field c.args.at.now.halves edges))
+      (λ fits. absurd (true≢false (sym (c.in-Err-cross_in_place.ensures.fits.1 fits))))),
 )

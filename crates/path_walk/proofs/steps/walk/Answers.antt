@@ -6,7 +6,7 @@ pub loop-place-preserved : goal.loop-place-preserved
 loop-place-preserved c = (
   c.in-Ok.ensures.field ∙ c.loop-place.invariant.0,
   stands_more c.args.tri.now.field c.loop-place.at.field c.args.tri.now.halves c.args.choices.now c.loop-place.place c.loop-place.at.halves c.step.new.at.halves
-  c.loop-place.invariant.0 c.loop-place.invariant.1 c.in-Ok.ensures.crossed,
+      c.loop-place.invariant.0 c.loop-place.invariant.1 c.in-Ok.ensures.crossed,
 )
 
 pub returns-clause-reached : goal.returns-clause-reached
