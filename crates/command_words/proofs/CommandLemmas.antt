@@ -4,13 +4,12 @@ use Rattle.std.specs.Prelude.{IsSomeAnd, get_or}
 use Rattle.std.specs.List.{AllByRecursion, flat_map}
 use Rattle.std.proofs.lemmas.List.{append_assoc}
 use Rattle.plane.specs.Spelling.{natural_text}
-use Rattle.plane.proofs.CallerLemmas.{natural_text_injective}
 use Rattle.command_words.specs.declared.rows.NumberBounds.{NumberBounds}
 use Rattle.command_words.specs.declared.command.Command.{Command}
 use Rattle.command_words.specs.declared.command.Command.TheVariants.{Check, Base, Region, Path}
 use Rattle.command_words.specs.Lines.{OptionRow, CommandRow, Given, given_words, IsGivenOf, IsLine, IsTaken, number_given}
 use Rattle.command_words.specs.Grammar.{check_row, base_row, region_row, path_row, flips_option}
-use Rattle.command_words.specs.Commands.{IsNumberOf, row_of_command, AreRead, Names, AreTaken}
+use Rattle.command_words.specs.Commands.{IsNumberOf, Names, AreTaken}
 use Rattle.command_words.specs.Fronts.{IsRow}
 use Rattle.command_words.proofs.GivenLemmas.{one_given}
 use Rattle.command_words.proofs.LineLemmas.{plain_first}

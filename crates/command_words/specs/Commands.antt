@@ -1,5 +1,5 @@
 -- The commands, and the words that name them.
-use Rattle.std.specs.Prelude.{◌≡◌, ℕ, List, Option, MatchOption, IsSomeAnd, ⊤}
+use Rattle.std.specs.Prelude.{◌≡◌, ℕ, List, MatchOption, IsSomeAnd, ⊤}
 use Rattle.command_words.specs.Lines.{OptionRow, CommandRow, Given, IsLine, number_given}
 use Rattle.command_words.specs.Grammar.{check_row, base_row, region_row, path_row, flips_option}
 use Rattle.command_words.specs.declared.command.Command.{Command}

@@ -1,7 +1,6 @@
 -- The grammar of words, a row a command.
-use Rattle.std.specs.Prelude.{codes, List, [], ◌∷◌, Some}
+use Rattle.std.specs.Prelude.{codes, [], ◌∷◌, Some}
 use Rattle.command_words.specs.Lines.{OptionRow, CommandRow}
-use Rattle.command_words.specs.declared.rows.NumberBounds.{NumberBounds}
 use Rattle.command_words.specs.declared.rows.PlainBounds.{PlainBounds}
 
 -- the flips of a point: from 1 to 1,000,000, and 100,000 unless given

@@ -1,12 +1,12 @@
 -- One step of a walk: the wall that is chosen is one of the triangulation's.
-use Rattle.std.proofs.Common.{◌≡◌, ◌∙◌, ℕ, ◌<◌, List, length, get_or, ap, sym, subst, arith}
+use Rattle.std.proofs.Common.{◌≡◌, ◌∙◌, ℕ, ◌<◌, List, length, get_or, ap, sym, subst}
 use Rattle.std.proofs.lemmas.List.{get_or-map, length-map}
 use Rattle.tri_core.specs.declared.half.Half.{Half}
 use Rattle.hinge_form.specs.declared.wall.Wall.{Wall}
 use Rattle.hinge_form.specs.Triples.{of_form}
 use Rattle.hinge_form.specs.Walls.{IsWall}
-use Rattle.parabola_region.specs.WallLists.{PlainWall, plain_wall, plain_walls, no_wall, wall_at, edges_of, IsWallList}
-use Rattle.path_walk.specs.Walks.{AtWall, HasNoWall}
+use Rattle.parabola_region.specs.WallLists.{PlainWall, plain_wall, plain_walls, no_wall, wall_at, IsWallList}
+use Rattle.path_walk.specs.Walks.{AtWall}
 
 module _ (d : ℕ) (halves : List Half) (walls slice : List Wall) (same : slice ≡ walls) (list : IsWallList d halves (plain_walls walls)) (j : ℕ) where
   module _ (wall other : Wall) (under : j < length slice) (found : wall ≡ get_or slice j other) where

@@ -1,5 +1,5 @@
 -- A walk stands in one place after each of its choices, has one end or none, and its end is reached.
-use Rattle.std.proofs.Common.{◌≡◌, ◌∙◌, ℕ, zero, suc, ◌+◌, ◌<◌, ◌≤◌, List, length, refl, ap, sym, subst, arith}
+use Rattle.std.proofs.Common.{◌≡◌, ◌∙◌, ℕ, zero, suc, ◌+◌, ◌<◌, ◌≤◌, List, length, ap, sym, subst, arith}
 use mathlib.Core.Logic.{inl, inr}
 use Rattle.std.specs.Prelude.{slice_index, ◌⊎◌}
 use Rattle.std.proofs.lemmas.Bool.{cases_order}
@@ -7,12 +7,11 @@ use Rattle.quad_field.specs.FieldNumber.{IsFieldNumber}
 use Rattle.quad_field.specs.declared.formula.Formula.TheVariants.{F12}
 use Rattle.tri_core.specs.declared.half.Half.{Half}
 use Rattle.tri_core.specs.Triangulation.{IsTriangulation}
-use Rattle.hinge_form.specs.Walls.{IsWall}
-use Rattle.parabola_region.specs.WallLists.{PlainWall, form_of, edges_of, IsWallList}
+use Rattle.parabola_region.specs.WallLists.{PlainWall, form_of, edges_of}
 use Rattle.parabola_region.proofs.CallerLemmas.{one_list}
 use Rattle.wall_cross.specs.Crossings.{AreAllFlipped, DiagonalsFit, LeadsIn, IsReached}
 use Rattle.wall_cross.proofs.CallerLemmas.{crossing_valid, one_crossing, crossing_of_wall}
-use Rattle.path_walk.specs.Walks.{AtWall, LiesBehindWall, StandsAfter, IsEnd, AtChoice, HasNoWall, IsWithoutWall, IsWideChoice, IsWideOnWalk}
+use Rattle.path_walk.specs.Walks.{AtWall, LiesBehindWall, StandsAfter, IsEnd, HasNoWall, IsWithoutWall, IsWideChoice, IsWideOnWalk}
 
 module _ (d : ℕ) (field : IsFieldNumber d) where
   -- ---- at one triangulation

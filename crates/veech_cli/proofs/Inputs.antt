@@ -23,7 +23,7 @@ use Rattle.tri_core.specs.Triangulation.{IsTriangulation}
 use Rattle.path_walk.specs.Walks.{IsWithoutWall, IsWideOnWalk}
 use Rattle.path_walk.proofs.CallerLemmas.{no_end_without_wall, no_end_wide, one_stop, wall_or_wide}
 use Rattle.answer_text.specs.declared.status.Status.{Status}
-use Rattle.answer_text.specs.declared.status.Status.TheVariants.{Done, File, TooWide, No}
+use Rattle.answer_text.specs.declared.status.Status.TheVariants.{File, TooWide, No}
 use Rattle.answer_text.specs.declared.place.Place.TheVariants as places
 use Rattle.answer_text.specs.declared.no_cause.NoCause.TheVariants.{Wall}
 use Rattle.command_words.specs.declared.command.Command.{Command}

@@ -1,6 +1,5 @@
-use Rattle.std.proofs.Common.{rules, refl, sym, subst, arith, true≢false}
+use Rattle.std.proofs.Common.{rules, refl, sym, subst, true≢false}
 use Rattle.quad_field.specs.declared.formula.Formula.{Formula}
-use Rattle.quad_field.specs.declared.formula.Formula.TheVariants.{F12}
 use Rattle.wall_cross.specs.Crossings.{DiagonalsFit, AreAllFlipped}
 use Rattle.path_walk.specs.Walks.{IsWideChoice}
 use Rattle.path_walk.proofs.Choices.{chosen_wall, at_chosen}

@@ -1,8 +1,7 @@
 use Rattle.std.proofs.lemmas.Result.{err_from_is_err_and}
 use Rattle.command_words.specs.declared.command.Command.TheVariants.{Region}
 use Rattle.veech_cli.specs.Owed.{IsRegionAnswer}
-use Rattle.answer_text.specs.declared.status.Status.TheVariants.{Done}
-use Rattle.veech_cli.proofs.Based.{owed_from, refused_from, region_refused}
+use Rattle.veech_cli.proofs.Based.{refused_from, region_refused}
 use Rattle.veech_cli.proofs.region.region.Goals as goal
 
 pub returns-in_err-base-clause-refused : goal.returns-in_err-base-clause-refused
