@@ -11,6 +11,7 @@ ghost use Rattle.tri_core.specs.Images.{IsImage, IsImageBy, AreOfOneClass, Carri
 ghost use Rattle.canon_code.specs.Serials.{IsSerial};
 ghost use Rattle.canon_code.specs.Codes.{IsCode, IsStart};
 ghost use Rattle.canon_code.specs.Canonical.{canonical, scale_of, frame};
+ghost use Rattle.canon_code.specs.CodeText.{numbers_text};
 
 /// The serial of an image at the image of a start is the serial at the start.
 pub fn image_keeps_serials()
@@ -57,4 +58,9 @@ pub fn there_is_one()
 /// The code of the canonical triangulation of a code is the code.
 pub fn canonical_keeps_the_code()
     ensures { (d : ℕ) (halves : List Half) (code : List ℤ) → IsFieldNumber d → IsTriangulation d halves → IsCode d halves code → IsCode d (canonical d code) code }
+{}
+
+/// A text lists one list of numbers.
+pub fn a_text_lists_one_list()
+    ensures { (numbers other : List ℤ) → numbers_text numbers ≡ numbers_text other → numbers ≡ other }
 {}
