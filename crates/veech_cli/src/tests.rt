@@ -742,7 +742,9 @@ fn crosses_every_wall_and_back(rt: HostRuntime) -> Result<(), Fail> {
     let alloc = rt.alloc();
     let examples = [
         TORUS,
+        TORUS_TRIANGLES,
         L_THREE_SQUARES,
+        L_FOUR_SQUARES,
         FLAT_CORNERS,
         OCTAGON,
         GOLDEN_L,
