@@ -8,3 +8,6 @@ mod steps;
 
 pub use fault::WalkFault;
 pub use steps::walk;
+
+#[cfg(test)]
+mod tests;
