@@ -776,7 +776,7 @@ fn refuses_long_words(rt: HostRuntime) -> Result<(), Fail> {
 
     let mut options = Vec::with_capacity(alloc, 5001)?;
     options.push("base")?;
-    while options.len() < 5001 {
+    for _ in 0..5000 {
         options.push("--flips=5")?;
     }
     let (ended, written) = run(alloc, options.as_slice(), TORUS, moving(4096))?;
