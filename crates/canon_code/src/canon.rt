@@ -3,14 +3,14 @@
 ghost use Rattle.std.specs.Prelude.{◌≡◌, ℕ, ℤ, ◌+◌, ◌<◌, ◌≤◌, ◌<ℤ◌, pos, ◌∷◌, ◌++◌, [], length, get_or, slice_get, Some, unsigned_abs, IfOk, OnOk, IfErr};
 ghost use Rattle.tri_core.specs.Images.{IsImageBy, CarriesFrame};
 ghost use Rattle.canon_code.specs.Canonical.{canonical, frame, ThirdVectorsFit, IsMade};
-ghost use Rattle.plane.specs.Matrices.{IsReducedTo};
+ghost use Rattle.plane.specs.Matrices.{IsReducedTo, IsInLowestTerms};
 ghost use Rattle.std.specs.Ordering.{int_cmp};
 ghost use Rattle.std.specs.Cmp.Lexicographic.{slice_cmp};
 ghost use Rattle.std.specs.declared.cmp.Ordering.TheVariants.{Less, Equal, Greater};
 ghost use Rattle.quad_field.specs.FieldNumber.{IsFieldNumber};
 ghost use Rattle.tri_core.specs.Triangulation.{IsTriangulation};
 ghost use Rattle.canon_code.specs.Serials.{IsSerial};
-ghost use Rattle.canon_code.specs.Codes.{IsCode, AreStarts};
+ghost use Rattle.canon_code.specs.Codes.{IsCode, IsStart, AreStarts};
 ghost use Rattle.canon_code.specs.Least.{IsLeastTo};
 ghost use Rattle.canon_code.specs.FrameWidth.{HasWideFrame};
 ghost use Rattle.canon_code.specs.declared.fault.CanonFault.TheVariants.{Wide};
@@ -108,6 +108,20 @@ fn frame_at(tri: &Tri, h: u32, scale: i128) -> Mat2
     let e = tri.half(h).vec;
     let g = tri.half(Tri::next(h)).vec;
     Mat2::reduced([e.s, g.s, e.t, g.t], scale)
+}
+
+/// The frame of a start of the least serial: it takes the canonical triangulation to `tri`, half-edge 0 to the start.
+pub fn frame_of(f: &Field, tri: &Tri, code: &Code, start: u32) -> Mat2
+    requires field { f.now ≡ tri.now.field }
+    requires start { IsStart f.now tri.now.halves code.now start }
+    ensures frame { CarriesFrame f.now result.rows result.denominator (canonical f.now code.now) 0 tri.now.halves start }
+    ensures lowest { IsInLowestTerms result }
+{
+    let _number = f.number();
+    let _count = tri.triangles();
+    let frame = frame_at(tri, start, code.numbers()[1]);
+    let _lowest = frame.denominator();
+    frame
 }
 
 /// The code of a triangulation. `frame` takes the canonical triangulation to `tri`, half-edge 0 to `start`.

@@ -8,12 +8,13 @@ mod coordinates;
 mod fault;
 pub mod laws;
 mod numbering;
+mod numbers;
 mod reader;
 mod serial;
 mod text;
 mod triangulation;
 
-pub use canon::{Canon, canon_of};
+pub use canon::{Canon, canon_of, frame_of};
 pub use code::Code;
 pub use fault::{CanonFault, CodeFault};
 pub use reader::read_code;

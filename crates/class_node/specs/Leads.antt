@@ -1,0 +1,32 @@
+-- Where the walls of a class lead: to the class behind the wall, by the frame of the crossed triangulation.
+use Rattle.std.specs.Prelude.{ℕ, ◌≤◌, ℤ, List}
+use Rattle.plane.specs.Matrices.{FieldMatrix, IsInLowestTerms}
+use Rattle.tri_core.specs.declared.half.Half.{Half}
+use Rattle.tri_core.specs.Images.{CarriesFrame}
+use Rattle.canon_code.specs.Codes.{IsCode, IsStart}
+use Rattle.canon_code.specs.Canonical.{canonical, ThirdVectorsFit}
+use Rattle.class_node.specs.Classes.{field_of, LiesBehindWall}
+
+-- the frame of start h, in lowest terms: it takes half-edges 0 and 1 of the canonical triangulation of the code to h and the next one
+pub record IsFrameAt (d : ℕ) (halves : List Half) (code : List ℤ) (h : ℕ) (frame : FieldMatrix) : Type 0 where
+  pub carries : CarriesFrame d frame.rows frame.denominator (canonical d code) 0 halves h
+  pub lowest : IsInLowestTerms frame
+
+-- the frame of a triangulation: that of its least start of least serial
+pub record IsFrame (d : ℕ) (halves : List Half) (code : List ℤ) (frame : FieldMatrix) : Type 0 where
+  pub start : ℕ
+  pub is_start : IsStart d halves code start
+  pub first : (h : ℕ) → IsStart d halves code h → start ≤ h
+  pub frame_at : IsFrameAt d halves code start frame
+
+-- wall w of a class leads to a class by a link: behind the wall lies a triangulation with this code, whose numbers fit, and this frame
+pub record IsLead (d : ℕ) (code : List ℤ) (w : ℕ) (to : List ℤ) (link : FieldMatrix) : Type 0 where
+  pub later : List Half
+  pub behind : LiesBehindWall d code w later
+  pub code_behind : IsCode d later to
+  pub fits : ThirdVectorsFit d to
+  pub frame : IsFrame d later to link
+
+-- over the field of a terrain
+abbrev pub LeadsBy : List ℤ → List ℤ → ℕ → List ℤ → FieldMatrix → Type 0
+LeadsBy t k w to link = ∥ IsLead (field_of t) k w to link ∥₁
