@@ -21,3 +21,6 @@ pub mod CodeExists
 pub mod TextReadings
 pub mod Listings
 pub mod Refused
+pub mod Merely
+pub mod Carriers
+pub mod CallerLemmas

@@ -2,7 +2,7 @@
 
 ghost use Rattle.std.specs.Prelude.{◌≡◌, ℕ, ℤ, ◌+◌, ◌<◌, ◌≤◌, ◌<ℤ◌, pos, ◌∷◌, ◌++◌, [], length, get_or, slice_get, Some, unsigned_abs, IfOk, OnOk, IfErr};
 ghost use Rattle.tri_core.specs.Images.{IsImageBy, CarriesFrame};
-ghost use Rattle.canon_code.specs.Canonical.{canonical, frame, ThirdVectorsFit, IsMade};
+ghost use Rattle.canon_code.specs.Canonical.{number_at, canonical, frame, ThirdVectorsFit, IsMade};
 ghost use Rattle.plane.specs.Matrices.{IsReducedTo, IsInLowestTerms};
 ghost use Rattle.std.specs.Ordering.{int_cmp};
 ghost use Rattle.std.specs.Cmp.Lexicographic.{slice_cmp};
@@ -110,6 +110,14 @@ fn frame_at(tri: &Tri, h: u32, scale: i128) -> Mat2
     Mat2::reduced([e.s, g.s, e.t, g.t], scale)
 }
 
+/// The number at place 1: the scale.
+fn scale_number(numbers: &[i128]) -> i128
+    requires { 1 < length numbers.now }
+    ensures { result ≡ number_at numbers.now 1 }
+{
+    numbers[1]
+}
+
 /// The frame of a start of the least serial: it takes the canonical triangulation to `tri`, half-edge 0 to the start.
 pub fn frame_of(f: &Field, tri: &Tri, code: &Code, start: u32) -> Mat2
     requires field { f.now ≡ tri.now.field }
@@ -119,7 +127,9 @@ pub fn frame_of(f: &Field, tri: &Tri, code: &Code, start: u32) -> Mat2
 {
     let _number = f.number();
     let _count = tri.triangles();
-    let frame = frame_at(tri, start, code.numbers()[1]);
+    let numbers = code.numbers();
+    let scale = scale_number(numbers);
+    let frame = frame_at(tri, start, scale);
     let _lowest = frame.denominator();
     frame
 }
