@@ -22,7 +22,7 @@ IsClassOver d code = IsFieldNumber d × IsMade d code
 
 -- the walls of a class: those of its canonical triangulation, in the order of their least edges
 abbrev pub AreWallsOf : ℕ → List ℤ → List PlainWall → Type 0
-AreWallsOf d code walls = IsClassOver d code × IsWallList d (canonical d code) walls
+AreWallsOf d code walls = IsWallList d (canonical d code) walls
 
 -- `later` are the half-edges behind wall w of a class: those of its canonical triangulation with all edges of the wall flipped
 abbrev pub LiesBehindWall : ℕ → List ℤ → ℕ → List Half → Type 0
@@ -31,7 +31,7 @@ LiesBehindWall d code w later =
 
 -- a class has n walls
 abbrev pub HasWallsOver : ℕ → List ℤ → ℕ → Type 0
-HasWallsOver d code n = ∥ (walls : List PlainWall) × AreWallsOf d code walls × (length walls ≡ n) ∥₁
+HasWallsOver d code n = ∥ IsClassOver d code × ((walls : List PlainWall) × AreWallsOf d code walls × (length walls ≡ n)) ∥₁
 
 -- the same over the field of a terrain
 abbrev pub IsClass : List ℤ → List ℤ → Type 0

@@ -5,7 +5,7 @@ use Rattle.tri_core.specs.declared.half.Half.{Half}
 use Rattle.tri_core.specs.Images.{CarriesFrame}
 use Rattle.canon_code.specs.Codes.{IsCode, IsStart}
 use Rattle.canon_code.specs.Canonical.{canonical, ThirdVectorsFit}
-use Rattle.class_node.specs.Classes.{field_of, LiesBehindWall}
+use Rattle.class_node.specs.Classes.{field_of, IsClassOver, LiesBehindWall}
 
 -- the frame of start h, in lowest terms: it takes half-edges 0 and 1 of the canonical triangulation of the code to h and the next one
 pub record IsFrameAt (d : ℕ) (halves : List Half) (code : List ℤ) (h : ℕ) (frame : FieldMatrix) : Type 0 where
@@ -27,6 +27,6 @@ pub record IsLead (d : ℕ) (code : List ℤ) (w : ℕ) (to : List ℤ) (link : 
   pub fits : ThirdVectorsFit d to
   pub frame : IsFrame d later to link
 
--- over the field of a terrain
+-- a wall of a class over the field of a terrain leads so
 abbrev pub LeadsBy : List ℤ → List ℤ → ℕ → List ℤ → FieldMatrix → Type 0
-LeadsBy t k w to link = ∥ IsLead (field_of t) k w to link ∥₁
+LeadsBy t k w to link = ∥ IsClassOver (field_of t) k × IsLead (field_of t) k w to link ∥₁

@@ -73,7 +73,13 @@ impl ClassTerrain {
     {
         let tri = tri_of(alloc, &self.field, code)?;
         let canon = canon_behind(alloc, &self.field, &tri, None)?;
-        frames_of(alloc, &self.field, &tri, &canon.code, canon.starts.as_slice())
+        frames_of(
+            alloc,
+            &self.field,
+            &tri,
+            &canon.code,
+            canon.starts.as_slice(),
+        )
     }
 }
 

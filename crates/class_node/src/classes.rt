@@ -1,8 +1,9 @@
 //! The walls of a class, and the class behind a wall.
 
-ghost use Rattle.std.specs.Prelude.{◌≡◌, ℕ, ◌<◌, length, IfOk, IfErr, Some, None};
+ghost use Rattle.std.specs.Prelude.{◌≡◌, ℕ, ◌<◌, length, IfOk, OnOk, IfErr, OnErr, Some, None};
 ghost use Rattle.quad_field.specs.declared.formula.Formula.TheVariants.{F12};
-ghost use Rattle.parabola_region.specs.WallLists.{plain_walls, IsWallList};
+ghost use Rattle.parabola_region.specs.WallLists.{plain_walls, edges_of, IsWallList};
+ghost use Rattle.wall_cross.specs.Crossings.{AreAllFlipped, DiagonalsFit};
 ghost use Rattle.canon_code.specs.Canonical.{canonical};
 ghost use Rattle.terrain.specs.Stops.{IfFault};
 ghost use Rattle.class_node.specs.Classes.{IsClassOver, AreWallsOf, LiesBehindWall, HasWallsOver};
@@ -15,7 +16,7 @@ use canon_code::{Code, tri_of};
 use hinge_form::Wall;
 use parabola_region::{RegionFault, walls};
 use plane::Mat2;
-use quad_field::Field;
+use quad_field::{Field, Formula, Wide};
 use std::alloc::Global;
 use terrain::Stop;
 use tri_core::Tri;
@@ -42,7 +43,11 @@ fn stop_of(fault: RegionFault) -> Stop<ClassFault>
 }
 
 /// The canonical triangulation of a class, with its walls. A fault names no wall.
-pub(crate) fn walled(alloc: Global, f: &Field, code: &Code) -> Result<Walled, Stop<ClassFault>>
+pub(crate) fn walls_of_class(
+    alloc: Global,
+    f: &Field,
+    code: &Code,
+) -> Result<Walled, Stop<ClassFault>>
     requires own { ∥ IsClassOver f.now code.now ∥₁ }
     ensures tri { IfOk result (λ w. w.tri ≡ record { field = f.now; halves = canonical f.now code.now }) }
     ensures walls { IfOk result (λ w. IsWallList f.now (canonical f.now code.now) (plain_walls w.walls.items)) }
@@ -61,8 +66,23 @@ pub(crate) fn wall_count(alloc: Global, f: &Field, code: &Code) -> Result<u32, S
     ensures count { IfOk result (HasWallsOver f.now code.now) }
     ensures fault { IfErr result (λ stop. IfFault stop (IsStuckOver f.now code.now)) }
 {
-    let walled = walled(alloc, f, code)?;
+    let walled = walls_of_class(alloc, f, code)?;
     Ok(walled.walls.len() as u32)
+}
+
+/// Crosses wall number w of a triangulation.
+fn cross_wall(f: &Field, tri: &mut Tri, walls: &[Wall], w: u32) -> Result<(), Wide>
+    requires field { f.now ≡ tri.old.field }
+    requires walls { IsWallList tri.old.field tri.old.halves (plain_walls walls.now) }
+    requires inside { w < length walls.now }
+    ensures field { OnOk result (tri.new.field ≡ tri.old.field) }
+    ensures flipped { OnOk result (AreAllFlipped tri.old.field tri.old.halves (edges_of (plain_walls walls.now) w) tri.new.halves) }
+    ensures wide { OnErr result (¬ (DiagonalsFit tri.old.field tri.old.halves (edges_of (plain_walls walls.now) w))) }
+{
+    match walls.get(w as usize) {
+        Some(wall) => cross_in_place(f, tri, wall),
+        None => unreachable!(),
+    }
 }
 
 /// The triangulation behind a wall of a class.
@@ -73,12 +93,15 @@ fn behind_wall(alloc: Global, f: &Field, code: &Code, wall: u32) -> Result<Tri, 
     ensures behind { IfOk result (λ tri. LiesBehindWall f.now code.now wall tri.halves) }
     ensures fault { IfErr result (λ stop. IfFault stop (IsStuckAtWall f.now code.now wall)) }
 {
-    let walled = walled(alloc, f, code)?;
+    let walled = match walls_of_class(alloc, f, code) {
+        Ok(walled) => walled,
+        Err(stop) => return Err(stop),
+    };
     let mut tri = walled.tri;
-    match cross_in_place(f, &mut tri, &walled.walls[wall as usize]) {
+    match cross_wall(f, &mut tri, walled.walls.as_slice(), wall) {
         Ok(()) => Ok(tri),
-        Err(wide) => Err(Stop::Fault(ClassFault {
-            formula: wide.formula,
+        Err(_) => Err(Stop::Fault(ClassFault {
+            formula: Formula::F12,
             wall: Some(wall),
         })),
     }
@@ -96,7 +119,12 @@ pub(crate) fn lead_of(
     ensures lead { IfOk result (λ r. IsLead f.now code.now wall r.0 r.1) }
     ensures fault { IfErr result (λ stop. IfFault stop (IsStuckAtWall f.now code.now wall)) }
 {
-    let tri = behind_wall(alloc, f, code, wall)?;
-    let canon = canon_behind(alloc, f, &tri, Some(wall))?;
-    Ok((canon.code, canon.frame))
+    let tri = match behind_wall(alloc, f, code, wall) {
+        Ok(tri) => tri,
+        Err(stop) => return Err(stop),
+    };
+    match canon_behind(alloc, f, &tri, Some(wall)) {
+        Ok(canon) => Ok((canon.code, canon.frame)),
+        Err(stop) => Err(stop),
+    }
 }

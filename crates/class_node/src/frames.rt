@@ -1,6 +1,7 @@
 //! Codes and frames of triangulations.
 
 ghost use Rattle.std.specs.Prelude.{◌≡◌, ℕ, ◌<◌, List, length, get_or, IfOk, IfErr};
+ghost use Rattle.plane.specs.Matrices.{identity};
 ghost use Rattle.tri_core.specs.Images.{IsImageBy};
 ghost use Rattle.quad_field.specs.declared.formula.Formula.TheVariants.{F1};
 ghost use Rattle.canon_code.specs.Codes.{IsCode, IsStart, AreStarts};
@@ -46,7 +47,13 @@ pub(crate) fn canon_behind(
 }
 
 /// The frames of all starts of a triangulation, in their order.
-pub(crate) fn frames_of(alloc: Global, f: &Field, tri: &Tri, code: &Code, starts: &[u32]) -> Result<Vec<Mat2>, Stop<ClassFault>>
+pub(crate) fn frames_of(
+    alloc: Global,
+    f: &Field,
+    tri: &Tri,
+    code: &Code,
+    starts: &[u32],
+) -> Result<Vec<Mat2>, Stop<ClassFault>>
     requires field { f.now ≡ tri.now.field }
     requires starts { (i : ℕ) → i < length starts.now → IsStart f.now tri.now.halves code.now (get_or starts.now i 0) }
     ensures memory { IfErr result (λ stop. IfFault stop (λ _. ⊥)) }

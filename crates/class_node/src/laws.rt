@@ -16,7 +16,7 @@ ghost use Rattle.terrain.specs.declared.graph.Lead.{Lead};
 ghost use Rattle.terrain.specs.Graphs.{IsGraph};
 ghost use Rattle.canon_code.specs.Codes.{IsCode};
 ghost use Rattle.canon_code.specs.Canonical.{canonical};
-ghost use Rattle.class_node.specs.Classes.{field_of, AreWallsOf, HasWalls};
+ghost use Rattle.class_node.specs.Classes.{field_of, IsClassOver, AreWallsOf, HasWalls};
 ghost use Rattle.class_node.specs.Leads.{IsLead, LeadsBy};
 ghost use Rattle.class_node.specs.Correspondence.{AreMatchingWalls, AreOneToOne};
 ghost use Rattle.class_node.specs.Reached.{IsReachedCode, IsReachedKey, HasAllLeads, IsRootOf};
@@ -24,7 +24,7 @@ ghost use Rattle.class_node.specs.Reached.{IsReachedCode, IsReachedKey, HasAllLe
 /// The walls of each image of the canonical triangulation of a class correspond one to one to the walls of the class.
 pub fn walls_are_those_of_the_class()
     ensures { (d : ℕ) (code : List ℤ) (a : Matrix Quad) (p : ℕ) (to : List Half) (forth back : ℕ → ℕ) (walls others : List PlainWall)
-        → AreWallsOf d code walls → IsTriangulation d to → IsImage d a p (canonical d code) to forth back → IsWallList d to others
+        → IsClassOver d code → AreWallsOf d code walls → IsTriangulation d to → IsImage d a p (canonical d code) to forth back → IsWallList d to others
         → AreOneToOne d a (canonical d code) to forth walls others }
 {}
 
@@ -32,7 +32,7 @@ pub fn walls_are_those_of_the_class()
 /// the image by A·G of the canonical triangulation of that class, for each image by A of the canonical triangulation of the class.
 pub fn crossings_are_those_of_the_class()
     ensures { (d : ℕ) (code : List ℤ) (a : Matrix Quad) (p : ℕ) (to later : List Half) (walls others : List PlainWall) (w v : ℕ) (e : List ℤ) (g : FieldMatrix)
-        → AreWallsOf d code walls → IsTriangulation d to → IsImageBy d a p (canonical d code) to → IsWallList d to others
+        → IsClassOver d code → AreWallsOf d code walls → IsTriangulation d to → IsImageBy d a p (canonical d code) to → IsWallList d to others
         → w < length walls → v < length others → AreMatchingWalls d a walls w others v
         → IsLead d code w e g → Crosses d to (form_of others v) (edges_of others v) later
         → IsImageBy d (matrix_product (quad_ops d) a g.rows) (p * g.denominator) (canonical d e) later }

@@ -1,6 +1,6 @@
 //! The shards of codes.
 
-ghost use Rattle.std.specs.Prelude.{◌≡◌, ◌<◌, ℤ, pos, unsigned_abs};
+ghost use Rattle.std.specs.Prelude.{◌≡◌, ◌+◌, ◌%◌, ◌<◌, ℤ, pos, unsigned_abs};
 ghost use Rattle.std.specs.Int.{int_rem_euclid};
 ghost use Rattle.class_node.specs.Shards.{shard_number};
 
@@ -12,6 +12,14 @@ fn residue(n: i128) -> u32
     n.rem_euclid(16) as u32
 }
 
+/// The remainder of a sum, from that of the one number and the other number.
+fn added(shard: u32, n: i128) -> u32
+    requires { shard < 16 }
+    ensures { result ≡ (shard + unsigned_abs (int_rem_euclid n (pos 16))) % 16 }
+{
+    (shard + residue(n)) % 16
+}
+
 /// The sum of a code's numbers at the places 0, 10, 21, 32 and so on by elevens, modulo 16 with the remainder from 0.
 pub(crate) fn shard_number(numbers: &[i128]) -> u32
     ensures { result ≡ shard_number numbers.now }
@@ -21,7 +29,7 @@ pub(crate) fn shard_number(numbers: &[i128]) -> u32
         None => 0,
     };
     for i in 0..numbers.len() / 11 {
-        shard = (shard + residue(numbers[10 + 11 * i])) % 16;
+        shard = added(shard, numbers[10 + 11 * i]);
     }
     shard
 }
