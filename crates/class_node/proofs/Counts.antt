@@ -1,6 +1,6 @@
 -- How many walls a class has, and each of them.
-use Rattle.std.proofs.Common.{◌≡◌, ◌∙◌, ℕ, ◌<◌, ◌≤◌, List, length, get_or, ap, sym, subst, arith}
-use Rattle.std.specs.Prelude.{ℤ}
+use Rattle.std.proofs.Common.{◌≡◌, ◌∙◌, ℕ, ◌<◌, ◌≤◌, List, length, get_or, ap, sym, subst, arith, true≢false}
+use Rattle.std.specs.Prelude.{ℤ, ◌↔◌, Result, Ok, Err, IsOk, IfOk, OnErr}
 use Rattle.std.specs.Coded.{Coded-set, coded_ℕ, le_prop}
 use mathlib.Core.Logic.{∥∥₁_elim, ∥∥₁_map}
 use Rattle.std.proofs.lemmas.List.{get_or-map, length-map}
@@ -8,8 +8,10 @@ use Rattle.tri_core.specs.declared.half.Half.{Half}
 use Rattle.hinge_form.specs.declared.wall.Wall.{Wall}
 use Rattle.hinge_form.specs.Triples.{of_form}
 use Rattle.hinge_form.specs.Walls.{IsWall}
-use Rattle.parabola_region.specs.WallLists.{PlainWall, plain_wall, plain_walls, no_wall, wall_at, edges_of, IsWallList}
+use Rattle.parabola_region.specs.WallLists.{PlainWall, plain_wall, plain_walls, no_wall, wall_at, IsWallList}
+use Rattle.plane.specs.Matrices.{FieldMatrix}
 use Rattle.canon_code.specs.Canonical.{canonical}
+use Rattle.class_node.specs.Leads.{IsLead}
 use Rattle.class_node.specs.Classes.{IsClassOver, AreWallsOf, HasWallsOver}
 use Rattle.class_node.specs.Once.{class_valid, one_list_of_walls, few_walls}
 
@@ -43,3 +45,14 @@ module _ (walls : List Wall) (w : ℕ) (wall other : Wall) (inside : w < length 
 
   pub wall_listed : (d : ℕ) (halves : List Half) → IsWallList d halves (plain_walls walls) → IsWall d halves (of_form wall.form) wall.edges.items
   wall_listed d halves list = subst (λ (p : PlainWall). IsWall d halves p.0 p.1) wall_is (list.each w (subst (λ n. w < n) (sym (length-map walls plain_wall)) inside))
+
+-- what is so exactly where a call is Ok isn't so where it isn't
+pub on_error : {A B X : Type 0} (r : Result A B) → IsOk r ↔ X → OnErr r (¬ X)
+on_error (Ok x) fits = tt
+on_error (Err e) fits = λ x. true≢false (sym (fits.1 x))
+
+-- the lead of a wall, over the field of a terrain
+pub leads_by : {E : Type 0} (d e : ℕ) (code : List ℤ) (w : ℕ) (r : Result (List ℤ × FieldMatrix) E) → e ≡ d → ∥ IsClassOver d code ∥₁ → IfOk r (λ x. IsLead e code w x.0 x.1)
+    → IfOk r (λ x. ∥ IsClassOver d code × IsLead d code w x.0 x.1 ∥₁)
+leads_by d e code w (Ok x) same own lead = ∥∥₁_map own (λ (o : IsClassOver d code). (o, subst (λ (f : ℕ). IsLead f code w x.0 x.1) same lead))
+leads_by d e code w (Err f) same own lead = tt

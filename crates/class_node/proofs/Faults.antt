@@ -1,6 +1,6 @@
 -- What a fault says of a class.
-use Rattle.std.proofs.Common.{◌≡◌, ℕ, ◌<◌, List, length, sym, ap, subst, refl, inl, inr}
-use Rattle.std.specs.Prelude.{ℤ, None, Some, Option}
+use Rattle.std.proofs.Common.{◌≡◌, ℕ, List, sym, ap, subst, inl, inr}
+use Rattle.std.specs.Prelude.{ℤ, None, Some}
 use Rattle.quad_field.specs.declared.formula.Formula.{Formula}
 use Rattle.quad_field.specs.declared.formula.Formula.TheVariants.{F1, F2, F3, F4, F5, F6, F7, F8, F9, F10, F11, F12, F13}
 use Rattle.tri_core.specs.declared.half.Half.{Half}

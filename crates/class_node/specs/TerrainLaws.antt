@@ -1,6 +1,6 @@
 -- The laws of terrains hold of the classes over a field.
 use Rattle.std.proofs.Common.{◌≡◌, ℕ, ◌/◌, ◌<◌, ◌≤◌, List, length, sym, ap, ◌∙◌, arith}
-use Rattle.std.specs.Prelude.{ℤ, pos, unsigned_abs}
+use Rattle.std.specs.Prelude.{ℤ}
 use mathlib.Core.Logic.{∥∥₁_elim, ∥∥₁_map, ∥∥₁_prop}
 use Rattle.std.specs.Coded.{Coded-set, coded_list, coded_ℤ, coded_ℕ, ×_prop, le_prop}
 use Rattle.std.specs.declared.cmp.Ordering.TheVariants.{Equal}

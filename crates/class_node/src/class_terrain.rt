@@ -1,22 +1,20 @@
 //! The classes over a field as a terrain.
 
-ghost use Rattle.std.specs.Prelude.{◌≡◌, ℕ, ◌<◌, List, length, get_or, IfOk, IfErr, None};
+ghost use Rattle.std.specs.Prelude.{◌≡◌, IfOk, IfErr, None};
 ghost use Rattle.quad_field.specs.declared.formula.Formula.TheVariants.{F1};
-ghost use Rattle.plane.specs.Matrices.{identity};
 ghost use Rattle.tri_core.specs.Images.{IsImageBy};
-ghost use Rattle.canon_code.specs.Codes.{IsCode, AreStarts};
+ghost use Rattle.canon_code.specs.Codes.{IsCode};
 ghost use Rattle.canon_code.specs.Canonical.{canonical};
 ghost use Rattle.canon_code.specs.FrameWidth.{HasWideFrame};
 ghost use Rattle.terrain.specs.Stops.{IfFault};
 ghost use Rattle.class_node.specs.Classes.{IsClassOver};
-ghost use Rattle.class_node.specs.Leads.{IsFrame, IsFrameAt};
-ghost use Rattle.class_node.specs.Stuck.{IsStuckOver};
+ghost use Rattle.class_node.specs.Leads.{IsFrame, AreFrames};
 
 use super::ClassFault;
 use super::classes::{lead_of, wall_count};
-use super::frames::{canon_behind, frames_of};
+use super::frames::{canon_behind, turns_of};
 use super::shards::shard_number;
-use canon_code::{Code, tri_of};
+use canon_code::Code;
 use delaunay_flip::Base;
 use plane::Mat2;
 use quad_field::Field;
@@ -58,28 +56,20 @@ impl ClassTerrain {
         ensures image { IfOk result (λ r. IsImageBy self.now r.1.rows r.1.denominator (canonical self.now r.0) base.now.tri.halves) }
         ensures fault { IfErr result (λ stop. IfFault stop (λ fault. (fault ≡ record { formula = F1; wall = None }) × HasWideFrame self.now base.now.tri.halves)) }
     {
-        let _number = self.field.number();
-        let canon = canon_behind(alloc, &self.field, &base.tri, None)?;
-        Ok((canon.code, canon.frame))
+        match canon_behind(alloc, &self.field, &base.tri, None) {
+            Ok(canon) => Ok((canon.code, canon.frame)),
+            Err(stop) => Err(stop),
+        }
     }
 
     /// The frames of all starts of the canonical triangulation of a class, in the order of the starts: the matrices that take it to itself.
     /// A fault names F1, wide at a start, and no wall.
     pub fn turns(&self, alloc: Global, code: &Code) -> Result<Vec<Mat2>, Stop<ClassFault>>
         requires own { ∥ IsClassOver self.now code.now ∥₁ }
-        ensures frames { IfOk result (λ frames. (starts : List ℕ) × AreStarts self.now (canonical self.now code.now) code.now starts × (length frames.items ≡ length starts)
-            × ((i : ℕ) → i < length starts → IsFrameAt self.now (canonical self.now code.now) code.now (get_or starts i 0) (get_or frames.items i identity))) }
+        ensures frames { IfOk result (λ frames. AreFrames self.now (canonical self.now code.now) code.now frames.items) }
         ensures fault { IfErr result (λ stop. IfFault stop (λ fault. (fault ≡ record { formula = F1; wall = None }) × HasWideFrame self.now (canonical self.now code.now))) }
     {
-        let tri = tri_of(alloc, &self.field, code)?;
-        let canon = canon_behind(alloc, &self.field, &tri, None)?;
-        frames_of(
-            alloc,
-            &self.field,
-            &tri,
-            &canon.code,
-            canon.starts.as_slice(),
-        )
+        turns_of(alloc, &self.field, code)
     }
 }
 

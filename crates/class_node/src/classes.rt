@@ -67,7 +67,7 @@ pub(crate) fn wall_count(alloc: Global, f: &Field, code: &Code) -> Result<u32, S
     ensures fault { IfErr result (λ stop. IfFault stop (IsStuckOver f.now code.now)) }
 {
     let walled = walls_of_class(alloc, f, code)?;
-    Ok(walled.walls.len() as u32)
+    Ok(walled.walls.as_slice().len() as u32)
 }
 
 /// Crosses wall number w of a triangulation.

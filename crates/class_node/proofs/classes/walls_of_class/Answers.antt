@@ -1,7 +1,5 @@
-use Rattle.std.proofs.Common.{ap, subst, ℕ, List}
-use mathlib.Core.Path.{subst₂}
+use Rattle.std.proofs.Common.{subst}
 use mathlib.Core.Logic.{∥∥₁_map}
-use Rattle.tri_core.specs.declared.half.Half.{Half}
 use Rattle.tri_core.specs.Triangulation.{Triangulation}
 use Rattle.parabola_region.specs.Instances.{IsRegionFault}
 use Rattle.class_node.specs.Classes.{IsClassOver}
