@@ -6,6 +6,7 @@ mod class_terrain;
 mod classes;
 mod fault;
 mod frames;
+pub mod laws;
 mod shards;
 
 pub use class_terrain::ClassTerrain;
