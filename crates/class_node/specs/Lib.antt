@@ -1,0 +1,9 @@
+pub mod Classes
+pub mod Leads
+pub mod Stuck
+pub mod Shards
+pub mod Correspondence
+pub mod Reached
+pub mod Once
+pub mod Residues
+pub mod TerrainLaws
