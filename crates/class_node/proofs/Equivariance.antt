@@ -1,5 +1,5 @@
 -- The walls and the leads of a class are those of each image of its canonical triangulation.
-use Rattle.std.proofs.Common.{◌≡◌, ℕ, ◌*◌, ◌<◌, List, length, subst}
+use Rattle.std.proofs.Common.{ℕ, ◌*◌, ◌<◌, List, length, subst}
 use Rattle.std.specs.Prelude.{ℤ}
 use Rattle.rings.specs.Matrices.{Matrix, matrix_product}
 use Rattle.quad_field.specs.declared.quad.Quad.{Quad}

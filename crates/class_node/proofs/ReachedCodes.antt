@@ -1,5 +1,5 @@
 -- The keys that leads reach from the code of a base are the codes of the triangulations that crossings reach from it.
-use Rattle.std.proofs.Common.{◌≡◌, ℕ, zero, suc, ◌<◌, ◌≤◌, List, length, slice_index, sym, ap, ◌∙◌, subst, arith}
+use Rattle.std.proofs.Common.{◌≡◌, ℕ, zero, suc, ◌<◌, List, length, slice_index, sym, ap, ◌∙◌, subst}
 use mathlib.Core.Logic.{∥∥₁_elim, ∥∥₁_map, ∥∥₁_prop}
 use Rattle.std.specs.Prelude.{ℤ, ◌↔◌, Some}
 use Rattle.std.proofs.lemmas.Option.{slice_get-get_or}
@@ -26,13 +26,13 @@ use Rattle.wall_cross.proofs.CallerLemmas.{reached_itself, reached_crossing, one
 use Rattle.wall_cross.proofs.CarriedCallers.{image_inverse, line_of_multiple, cross_valid, crossing_carried, reached_valid}
 use Rattle.terrain.specs.declared.graph.Lead.{Lead}
 use Rattle.terrain.specs.Places.{IsAt}
-use Rattle.terrain.specs.Reach.{LeadsTo, Path}
+use Rattle.terrain.specs.Reach.{LeadsTo}
 use Rattle.terrain.specs.Graphs.{IsGraph}
 use Rattle.terrain.proofs.CallerLemmas.{root_reached, lead_reached, reached_least, read}
 use Rattle.canon_code.specs.Codes.{IsCode}
-use Rattle.canon_code.specs.Canonical.{canonical, frame, scale_of}
+use Rattle.canon_code.specs.Canonical.{canonical, frame}
 use Rattle.canon_code.proofs.CallerLemmas.{code_once, code_carried, framed, some_code}
-use Rattle.class_node.specs.Classes.{field_of, IsClassOver, AreWallsOf, HasWalls, LiesBehindWall}
+use Rattle.class_node.specs.Classes.{field_of, IsClassOver, AreWallsOf, HasWalls}
 use Rattle.class_node.specs.Leads.{IsLead, LeadsBy}
 use Rattle.class_node.specs.Reached.{IsReachedCode, IsReachedKey, HasAllLeads, IsRootOf}
 use Rattle.class_node.specs.Once.{class_valid, one_list_of_walls, behind_valid}

@@ -24,6 +24,7 @@ use std::marker::Model;
 use terrain::{Numbers, Stop, Terrain};
 
 /// The classes of the triangulations over a field, by their codes. Contracts see it as the field's D.
+#[derive(Clone, Copy)]
 pub struct ClassTerrain {
     field: Field,
 }

@@ -1,4 +1,3 @@
-use Rattle.std.proofs.Common.{ℕ, List}
 use mathlib.Core.Logic.{∥∥₁_map}
 use Rattle.class_node.specs.Classes.{field_of, IsClassOver}
 use Rattle.class_node.specs.Leads.{IsLead}
