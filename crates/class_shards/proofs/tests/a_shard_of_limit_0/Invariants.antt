@@ -1,0 +1,8 @@
+use Rattle.walls_out.specs.Seats.{name_of}
+use Rattle.receipt_log.specs.Logs.{name_of_log}
+use Rattle.std.proofs.Common.{◌∷◌, []}
+use Rattle.std.specs.Prelude.{pos}
+use Rattle.class_shards.proofs.tests.a_shard_of_limit_0.Given as goal
+
+abbrev pub ghosts-meets : goal.ghosts-meets
+ghosts-meets g a = record { terrain = pos 100 ∷ []; root = pos 0 ∷ []; limit = 0; count = name_of a.count.now; logs = λ _. (name_of_log a.log) }
