@@ -1,6 +1,6 @@
 use Rattle.std.proofs.Common.{◌≡◌, sym, subst}
 use Rattle.terrain.specs.Places.{IsAt}
-use Rattle.terrain.proofs.CallerLemmas.{snoc_left}
+use Rattle.terrain.proofs.CallerLemmas.{snoc_left, snoc_end}
 use Rattle.class_shards.proofs.shards.take_lock.Goals as goal
 
 pub returns-clause-keepers : goal.returns-clause-keepers

@@ -6,7 +6,7 @@ use Rattle.std.proofs.lemmas.Option.{slice_get_read}
 use Rattle.class_shards.specs.declared.row.Slot.{Slot}
 use Rattle.std.specs.Arc.{arc_value}
 use Rattle.std.specs.Vec.{with_item}
-use Rattle.std.proofs.lemmas.List.{length-map}
+use Rattle.std.proofs.lemmas.List.{length-map, length-set}
 use mathlib.Core.Logic.{∥∥₁_map}
 use mathlib.Core.List.{IsPrefix}
 use Rattle.walls_out.specs.declared.entry.Entry.TheVariants.{Wall}
@@ -272,3 +272,8 @@ invariant_of-self-clause-targets g c =
     let new = ap (λ i. rows_in numbers s.keys.items (set s.rows.items i (record { slots = with_item row.slots ticket.wall (Some slot) }))) e ∙ written (λ a. numbers (arc_value a)) s.keys.items s.rows.items place row (record { slots = with_item row.slots ticket.wall (Some slot) }) spot.row ticket.wall slot spot.at stands refl in
     let view = c.lower.ensures.view ∙ ap lowered c.join.ensures.view in
     subst (λ i. AreLogged g.T.Terrain.shard g.N.Naming.logs (set s.rows.items i (record { slots = with_item row.slots ticket.wall (Some slot) }))) (sym e) (logged_on g.T.Terrain.shard g.N.Naming.logs s.rows.items place row (record { slots = with_item row.slots ticket.wall (Some slot) }) ticket.wall slot stands refl (c.requires.target, c.requires.shard) s.targets)
+
+pub invariant_of-self-clause-long : goal.invariant_of-self-clause-long
+invariant_of-self-clause-long g c =
+    let s = c.args.self.now in
+    s.long ∙ sym (length-set s.rows.items c.place-place.result (record { slots = with_item c.index_mut-row.result.now.slots c.args.ticket.wall (Some (record { shard = c.args.shard; target = c.args.target; link = c.args.link })) }))
