@@ -13,7 +13,25 @@ pub use Rattle.plane.proofs.Wholes.{whole_injective, root_injective}
 pub use Rattle.plane.proofs.Quads.{quad_injective}
 pub use Rattle.plane.proofs.Vectors.{vector_injective}
 -- one matrix in lowest terms for one value, and the identity is one
-pub use Rattle.plane.proofs.Matrices.{one_value, identity_lowest}
+pub use Rattle.plane.proofs.LowestTerms.{one_value, identity_lowest}
+-- what a matrix is reduced to has its value
+pub use Rattle.plane.proofs.LowestTerms.{reduced_value}
+-- having one value is an equivalence
+pub use Rattle.plane.proofs.MatrixGroup.{same_self, same_back, same_on}
+-- products respect it, are associative, and have the identity as their unit
+pub use Rattle.plane.proofs.MatrixGroup.{product_some, same_times, times_assoc, one_times, times_one}
+-- quotients by an inverse, and that there is one inverse only
+pub use Rattle.plane.proofs.MatrixGroup.{quotient_is, cancel_right, inverse_same, one_inverse}
+-- multiples by whole numbers as those of the ring, and the inverse by the adjugate
+pub use Rattle.plane.proofs.MatrixGroup.{scaled_rows, inverse_rows, adjugate_inverse}
+-- determinants of products, and of matrices of one value
+pub use Rattle.plane.proofs.Determinants.{det_of, times_det, same_det}
+-- what has a positive determinant: what has its value, the identity, products, factors, inverses and quotients
+pub use Rattle.plane.proofs.Determinants.{same_positive, identity_positive, times_positive, first_positive, inverse_positive, quotient_positive, has_inverse}
+-- and what has one other than zero
+pub use Rattle.plane.proofs.Determinants.{positive_some, same_not_zero, identity_not_zero, times_not_zero, first_not_zero, second_not_zero, inverse_not_zero, quotient_not_zero}
+-- the identities of matrices over every commutative ring that these rest on
+pub use Rattle.plane.proofs.MatrixRing.{unit_matrix, scaled_adjugate, opposite_matrix, matrix_is, product_assoc, unit_product, product_unit, product_multiples, unit_det, adjugate_product, product_adjugate}
 -- the cofactors of two whole numbers, and what they divide
 pub use Rattle.plane.proofs.Cofactors.{Cofactors, cofactors, parts}
 

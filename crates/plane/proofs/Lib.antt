@@ -3,5 +3,9 @@ pub mod Wholes
 pub mod Quads
 pub mod Vectors
 pub mod Cofactors
-pub mod Matrices
+pub mod LowestTerms
+pub mod MatrixRing
+pub mod MatrixGroup
+pub mod Determinants
+pub mod Inverses
 pub mod CallerLemmas

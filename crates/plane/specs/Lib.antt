@@ -7,3 +7,4 @@ pub mod Spelling
 pub mod Reading
 pub mod Halves
 pub mod Matrices
+pub mod MatrixWidth

@@ -1,9 +1,9 @@
 -- Matrices over the field: rows of K-integers over a denominator, in lowest terms.
 use Rattle.std.specs.Prelude.{◌≡◌, ℕ, ◌*◌, ◌<◌, ℤ, pos, List, [], ◌∷◌, slice_index_or}
 use Prim.Native.Nat.{◌∣◌}
-use Rattle.rings.specs.Matrices.{Matrix}
+use Rattle.rings.specs.Matrices.{Matrix, matrix_product}
 use Rattle.quad_field.specs.declared.quad.Quad.{Quad}
-use Rattle.quad_field.specs.Quads.{quad, scaled}
+use Rattle.quad_field.specs.Quads.{quad, quad_ops, scaled}
 use Rattle.quad_field.specs.Content.{DividesAll}
 
 -- a matrix over the field: its rows over its denominator
@@ -40,3 +40,11 @@ IsReducedTo n den m = (g : ℕ) × (0 < g) × (n ≡ scaled_matrix (pos g) m.row
 -- two matrices have one value: n1/m1 = n2/m2 where m2·n1 = m1·n2
 abbrev pub HaveOneValue : FieldMatrix → FieldMatrix → Type 0
 HaveOneValue a b = scaled_matrix (pos b.denominator) a.rows ≡ scaled_matrix (pos a.denominator) b.rows
+
+-- the product of n1/m1 and n2/m2 is (n1·n2)/(m1·m2), not in lowest terms: it maps by the second first
+abbrev pub matrix_times : ℕ → FieldMatrix → FieldMatrix → FieldMatrix
+matrix_times d a b = record { rows = matrix_product (quad_ops d) a.rows b.rows; denominator = a.denominator * b.denominator }
+
+-- one matrix is the inverse of another: both products have the value of the identity
+abbrev pub IsInverseOf : ℕ → FieldMatrix → FieldMatrix → Type 0
+IsInverseOf d a b = HaveOneValue (matrix_times d a b) identity × HaveOneValue (matrix_times d b a) identity

@@ -5,12 +5,14 @@
 mod halves;
 pub mod laws;
 mod mat2;
+mod matrices;
 mod texts;
 mod vec2;
 mod words;
 
 pub use halves::is_upper;
 pub use mat2::{Mat2, mat_equal, mat_identity};
+pub use matrices::{mat_inverse, mat_mul};
 pub use texts::{
     QUAD_LENGTH, VECTOR_LENGTH, WHOLE_LENGTH, put_natural, put_quad, put_vector, put_whole,
 };

@@ -1,10 +1,11 @@
 //! Tables of words with what they are read as, and of numbers with their text.
 
 use super::{
-    Mat2, NaturalWord, QuadWord, Vec2, VectorWord, WholeWord, mat_equal, mat_identity, put_quad,
-    put_vector, put_whole, read_natural, read_quad, read_vector, read_whole,
+    Mat2, NaturalWord, QuadWord, Vec2, VectorWord, WholeWord, det, mat_equal, mat_identity,
+    mat_inverse, mat_mul, put_quad, put_vector, put_whole, read_natural, read_quad, read_vector,
+    read_whole,
 };
-use quad_field::Quad;
+use quad_field::{Field, Formula, Quad, Sign};
 use std::test::Fail;
 
 const MAX: i128 = i128::MAX;
@@ -268,4 +269,148 @@ fn takes_matrices_to_lowest_terms(rt: HostRuntime) {
     assert!(rt; mat_equal(&Mat2::reduced([two, zero, zero, two], 2), &identity));
     assert!(rt; !mat_equal(&Mat2::reduced([one, zero, zero, one], 2), &identity));
     assert!(rt; !mat_equal(&Mat2::reduced([one, quad(0, 1), zero, one], 1), &identity));
+}
+
+/// Numbers of a matrix by rows over a denominator.
+type Numbers = ([Quad; 4], i128);
+
+/// What a product or an inverse is to be.
+#[derive(Clone, Copy, PartialEq)]
+enum Answer {
+    Is([Quad; 4], i128),
+    Wide(Formula),
+    Undefined,
+}
+
+/// The product of two matrices with denominators above zero.
+fn product_is(field: &Field, a: Numbers, b: Numbers) -> Answer {
+    if a.1 < 1 || b.1 < 1 {
+        return Answer::Undefined;
+    }
+    match mat_mul(field, &Mat2::reduced(a.0, a.1), &Mat2::reduced(b.0, b.1)) {
+        Ok(c) => Answer::Is(*c.entries(), c.denominator()),
+        Err(wide) => Answer::Wide(wide.formula),
+    }
+}
+
+/// The inverse of a matrix with a denominator above zero and a determinant that fits and isn't zero.
+fn inverse_is(field: &Field, a: Numbers) -> Answer {
+    if a.1 < 1 {
+        return Answer::Undefined;
+    }
+    let a = Mat2::reduced(a.0, a.1);
+    let n = a.entries();
+    let first = Vec2 { s: n[0], t: n[1] };
+    let second = Vec2 { s: n[2], t: n[3] };
+    match det(field, &first, &second) {
+        Ok(determinant) => {
+            if field.sign(determinant) == Sign::Zero {
+                return Answer::Undefined;
+            }
+            match mat_inverse(field, &a) {
+                Ok(c) => Answer::Is(*c.entries(), c.denominator()),
+                Err(wide) => Answer::Wide(wide.formula),
+            }
+        }
+        Err(_) => Answer::Undefined,
+    }
+}
+
+#[test]
+fn multiplies_matrices(rt: HostRuntime) -> Result<(), Fail> {
+    let field = Field::make(2).ok_or("2 is square-free")?;
+    let zero = quad(0, 0);
+    let one = quad(1, 0);
+    let root = quad(0, 1);
+    let shear = [one, one, zero, one];
+    let turn = [zero, quad(-1, 0), one, zero];
+    for (a, b, product) in [
+        (
+            (shear, 1),
+            (turn, 1),
+            Answer::Is([one, quad(-1, 0), one, zero], 1),
+        ),
+        (
+            (turn, 1),
+            (shear, 1),
+            Answer::Is([zero, quad(-1, 0), one, one], 1),
+        ),
+        (
+            ([root, one, zero, root], 2),
+            ([root, zero, one, root], 3),
+            Answer::Is([quad(3, 0), root, root, quad(2, 0)], 6),
+        ),
+        (
+            ([root, zero, zero, root], 2),
+            ([root, zero, zero, root], 1),
+            Answer::Is([one, zero, zero, one], 1),
+        ),
+        (
+            ([quad(MIN, 0), zero, zero, one], 1),
+            ([one, zero, zero, one], 1),
+            Answer::Is([quad(MIN, 0), zero, zero, one], 1),
+        ),
+        (
+            ([quad(MIN, 0), zero, zero, one], 1),
+            ([quad(-1, 0), zero, zero, one], 1),
+            Answer::Wide(Formula::F10),
+        ),
+        (
+            ([one, zero, zero, one], MAX),
+            ([one, zero, zero, one], 2),
+            Answer::Wide(Formula::F10),
+        ),
+    ] {
+        assert!(rt; product_is(&field, a, b) == product);
+    }
+    Ok(())
+}
+
+#[test]
+fn inverts_matrices(rt: HostRuntime) -> Result<(), Fail> {
+    let field = Field::make(2).ok_or("2 is square-free")?;
+    let zero = quad(0, 0);
+    let one = quad(1, 0);
+    let root = quad(0, 1);
+    for (a, inverse) in [
+        (
+            ([one, one, zero, one], 1),
+            Answer::Is([one, quad(-1, 0), zero, one], 1),
+        ),
+        (
+            ([quad(3, 0), one, zero, quad(3, 0)], 2),
+            Answer::Is([quad(6, 0), quad(-2, 0), zero, quad(6, 0)], 9),
+        ),
+        (
+            ([root, one, zero, one], 1),
+            Answer::Is([root, quad(0, -1), zero, quad(2, 0)], 2),
+        ),
+        (
+            ([quad(1, 1), zero, zero, one], 1),
+            Answer::Is([quad(-1, 1), zero, zero, one], 1),
+        ),
+        (
+            ([root, one, one, one], 1),
+            Answer::Is([quad(1, 1), quad(-1, -1), quad(-1, -1), quad(2, 1)], 1),
+        ),
+        (
+            ([quad(1, 1), zero, zero, one], 3),
+            Answer::Is([quad(-3, 3), zero, zero, quad(3, 0)], 1),
+        ),
+        (
+            ([one, zero, zero, quad(MIN, 0)], 1),
+            Answer::Wide(Formula::F11),
+        ),
+        (
+            ([one, zero, zero, quad(0, MIN)], 1),
+            Answer::Wide(Formula::F11),
+        ),
+        (
+            ([quad(0, 1 << 63), zero, zero, one], 1),
+            Answer::Wide(Formula::F11),
+        ),
+    ] {
+        assert!(rt; inverse_is(&field, a) == inverse);
+    }
+    Ok(())
 }

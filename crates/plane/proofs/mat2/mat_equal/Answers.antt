@@ -1,5 +1,5 @@
 use Rattle.std.proofs.Common.{rules, ◌≡◌}
-use Rattle.plane.proofs.Matrices.{fields_decide}
+use Rattle.plane.proofs.LowestTerms.{fields_decide}
 use Rattle.plane.proofs.mat2.mat_equal.Goals as goal
 
 pub returns-then-a-b : goal.returns-then-a-b

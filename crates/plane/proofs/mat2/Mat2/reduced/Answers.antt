@@ -4,7 +4,7 @@ use Rattle.std.specs.Int.{w128}
 use Rattle.std.proofs.lemmas.Int.{to_z-of_z}
 use Prim.Native.Nat.{◌∣◌}
 use Rattle.quad_field.specs.Content.{DividesAll, IsCancelled}
-use Rattle.plane.proofs.Matrices.{four_entries, absolute, lowest_terms, reduced_rows}
+use Rattle.plane.proofs.LowestTerms.{four_entries, absolute, lowest_terms, reduced_rows}
 use Rattle.plane.proofs.mat2.Mat2.reduced.Goals as goal
 
 pub invariant_of-result : goal.invariant_of-result

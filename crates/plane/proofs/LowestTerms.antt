@@ -1,5 +1,5 @@
 -- Matrices in lowest terms: their fields, and that there is one for each value.
-use Rattle.std.proofs.Common.{◌≡◌, ℕ, zero, suc, ◌+◌, ◌*◌, ◌<◌, ◌≤◌, [], ◌∷◌, sym, ◌∙◌, ap, subst, arith, refl, Bool, ◌&&◌, int_eq, get_or, length}
+use Rattle.std.proofs.Common.{◌≡◌, ℕ, zero, suc, ◌+◌, ◌*◌, ◌<◌, [], ◌∷◌, sym, ◌∙◌, ap, subst, arith, refl, Bool, ◌&&◌, int_eq, get_or, length}
 use Rattle.std.specs.Bool.{Decides}
 use Rattle.std.specs.Cmp.Lexicographic.{pointwise}
 use Rattle.std.proofs.lemmas.Bool.{and_parts, and_from}
@@ -18,7 +18,7 @@ use Rattle.quad_field.specs.declared.quad.Quad.{Quad}
 use Rattle.quad_field.specs.Content.{DividesAll, DividesParts, IsCancelled}
 use Rattle.quad_field.specs.Quads.{quad, scaled}
 use Rattle.plane.specs.Matrices.{FieldMatrix, identity, rows_of, entries_of, scaled_matrix, IsInLowestTerms, IsReducedTo, HaveOneValue}
-use Rattle.plane.proofs.Cofactors.{Cofactors, cofactors, parts}
+use Rattle.plane.proofs.Cofactors.{cofactors, parts}
 
 -- a list of four
 four : (P : Quad → Type 0) (n : Matrix Quad) → P n.0 → P n.1 → P n.2 → P n.3 → (i : ℕ) (d : Quad) → i < 4 → P (get_or (entries_of n) i d)
@@ -32,7 +32,7 @@ dividing : (k n t : ℕ) → n ≡ k * t → k ∣ n
 dividing k n t e = subst (λ (m : ℕ). k ∣ m) (sym e) (dvd-mul_right k t)
 
 -- k·x = k·y gives x = y where k is above zero
-cancelled : (k : ℕ) (x y : Quad) → 0 < k → scaled (pos k) x ≡ scaled (pos k) y → x ≡ y
+pub cancelled : (k : ℕ) (x y : Quad) → 0 < k → scaled (pos k) x ≡ scaled (pos k) y → x ≡ y
 cancelled k x y some e i = quad (part x.a y.a (ap (λ (z : Quad). z.a) e) i) (part x.b y.b (ap (λ (z : Quad). z.b) e) i)
   where
     part : (m n : ℤ) → m *ℤ pos k ≡ n *ℤ pos k → m ≡ n
@@ -91,6 +91,26 @@ reduced_rows n m d e four h c = (
     absolute_product (pos a) (pos b) h k = refl
     absolute_product (pos a) (negsuc b) h k = absurd (omega (arith, ints, k))
     absolute_product (negsuc a) b h k = absurd (omega (arith, ints, h))
+
+-- j·(k·x) = (k·j)·x
+scaled_twice : (j k : ℤ) (x : Quad) → scaled j (scaled k x) ≡ scaled (k *ℤ j) x
+scaled_twice j k x i = quad (whole_ring.mul_assoc x.a k j i) (whole_ring.mul_assoc x.b k j i)
+
+-- what a matrix is reduced to has its value
+pub reduced_value : (n : Matrix Quad) (den : ℤ) (m c : FieldMatrix) → n ≡ m.rows → den ≡ pos m.denominator → IsReducedTo n den c → HaveOneValue m c
+reduced_value n den m c rows denominator reduced i = (
+  entry m.rows.0 c.rows.0 (ap (λ (o : Matrix Quad). o.0) is) i,
+  entry m.rows.1 c.rows.1 (ap (λ (o : Matrix Quad). o.1) is) i,
+  entry m.rows.2 c.rows.2 (ap (λ (o : Matrix Quad). o.2) is) i,
+  entry m.rows.3 c.rows.3 (ap (λ (o : Matrix Quad). o.3) is) i,
+)
+  where
+    is : m.rows ≡ scaled_matrix (pos reduced.0) c.rows
+    is = sym rows ∙ reduced.2
+
+    entry : (x y : Quad) → x ≡ scaled (pos reduced.0) y → scaled (pos c.denominator) x ≡ scaled (pos m.denominator) y
+    entry x y e =
+        ap (scaled (pos c.denominator)) e ∙ scaled_twice (pos c.denominator) (pos reduced.0) y ∙ ap (λ (k : ℤ). scaled k y) (sym reduced.3 ∙ denominator)
 
 -- two such matrices are equal exactly where their numbers and denominators are
 pub fields_decide : (x y : List Quad) (d e : ℤ) (a b : FieldMatrix) (r : Bool) → entries_of (rows_of x) ≡ x → entries_of (rows_of y) ≡ y
