@@ -47,6 +47,21 @@ impl<T: Terrain> Book<T> {
         ensures stuck { IfErr result (λ stop. IfFault stop (T.is_stuck (T.numbers terrain.now) (T.Key.numbers root.now))) }
     {
         let walls = terrain.walls(alloc, root)?;
+        Ok(Book::of_root(alloc, terrain, root, walls)?)
+    }
+
+    /// A book with the root alone, which has so many walls, its slots empty.
+    pub fn of_root(
+        alloc: Global,
+        terrain: &T,
+        root: &T::Key,
+        walls: u32,
+    ) -> Result<Book<T>, AllocError>
+        requires own { T.is_own (T.numbers terrain.now) (T.Key.numbers root.now) }
+        requires walls { T.has_walls (T.numbers terrain.now) (T.Key.numbers root.now) walls }
+        ensures names { IfOk result (λ b. (terrain_of b ≡ T.numbers terrain.now) × (root_of b ≡ T.Key.numbers root.now)) }
+        ensures rows { IfOk result (λ b. rows_of b ≡ empty_row (T.Key.numbers root.now) walls ∷ []) }
+    {
         let slots = empty_slots(alloc, walls)?;
         let key = terrain.copy_key(alloc, root)?;
         let mut records = Vec::new(alloc);

@@ -7,7 +7,7 @@ ghost use Rattle.terrain.specs.Stops.{IfFault};
 ghost use Rattle.explore_core.specs.Books.{Row, HasKey, IsOpen, empty_row, keys_of};
 ghost use Rattle.explore_core.specs.Events.{Adds, with_slot};
 ghost use Rattle.explore_core.specs.Index.{IsGap};
-ghost use Rattle.explore_core.specs.Places.{IsSpot};
+ghost use Rattle.explore_core.specs.Places.{IsSpot, AreWallsOfAdded};
 
 use super::book::Book;
 use super::record::{Filled, Record};
@@ -19,7 +19,7 @@ use std::snapshot::Snapshot;
 use terrain::{Numbers, Stop, Terrain};
 
 impl<T: Terrain> Book<T> {
-    ghost use Rattle.explore_core.specs.Views.{rows_of, terrain_of, root_of, walls_in, leads_in, stuck_in, stuck_at_in};
+    ghost use Rattle.explore_core.specs.Views.{rows_of, terrain_of, root_of, walls_in, leads_in, found_in, stuck_in, stuck_at_in};
 
     /// The place of the key, or the index at which it would stand among the places.
     pub(crate) fn place_of(&self, terrain: &T, key: &T::Key) -> Result<u32, usize>
@@ -35,19 +35,20 @@ impl<T: Terrain> Book<T> {
         )
     }
 
-    /// The number of a reached key's walls.
+    /// The number of a reached key's walls, and the walls.
     pub(crate) fn walls_of(
         &self,
         alloc: Global,
         terrain: &T,
         key: &T::Key,
-    ) -> Result<u32, Stop<T::Fault>>
+    ) -> Result<(u32, T::Walls), Stop<T::Fault>>
         requires terrain { T.numbers terrain.now ≡ terrain_of self.now }
         requires reached { IsReached (walls_in self.now) (leads_in self.now) (root_of self.now) (T.Key.numbers key.now) }
-        ensures walls { IfOk result (walls_in self.now (T.Key.numbers key.now)) }
+        ensures walls { IfOk result (λ r. walls_in self.now (T.Key.numbers key.now) r.0) }
+        ensures found { IfOk result (λ r. found_in self.now (T.Key.numbers key.now) r.1) }
         ensures stuck { IfErr result (λ stop. IfFault stop (stuck_in self.now (T.Key.numbers key.now))) }
     {
-        terrain.walls(alloc, key)
+        terrain.find_walls(alloc, key)
     }
 
     /// Where a reached key is, or where it would stand.
@@ -56,17 +57,21 @@ impl<T: Terrain> Book<T> {
         alloc: Global,
         terrain: &T,
         key: &T::Key,
-    ) -> Result<Spot, Stop<T::Fault>>
+    ) -> Result<Spot<T::Walls>, Stop<T::Fault>>
         requires terrain { T.numbers terrain.now ≡ terrain_of self.now }
         requires reached { IsReached (walls_in self.now) (leads_in self.now) (root_of self.now) (T.Key.numbers key.now) }
-        ensures spot { IfOk result (IsSpot T.order (walls_in self.now) (rows_of self.now) self.now.places.items (T.Key.numbers key.now)) }
+        ensures spot { IfOk result (IsSpot T.order (walls_in self.now) (found_in self.now) (rows_of self.now) self.now.places.items (T.Key.numbers key.now)) }
         ensures stuck { IfErr result (λ stop. IfFault stop (stuck_in self.now (T.Key.numbers key.now))) }
     {
         match self.place_of(terrain, key) {
             Ok(place) => Ok(Spot::There(place)),
             Err(index) => {
-                let walls = self.walls_of(alloc, terrain, key)?;
-                Ok(Spot::New { index, walls })
+                let (count, walls) = self.walls_of(alloc, terrain, key)?;
+                Ok(Spot::New {
+                    index,
+                    count,
+                    walls,
+                })
             }
         }
     }
@@ -96,22 +101,32 @@ impl<T: Terrain> Book<T> {
         Ok(())
     }
 
-    /// The place of a reached key, which is added where it isn't there.
-    pub(crate) fn put(&mut self, alloc: Global, key: T::Key, spot: Spot) -> Result<u32, AllocError>
+    /// The place of a reached key, which is added where it isn't there; its walls where it was added.
+    pub(crate) fn put(
+        &mut self,
+        alloc: Global,
+        key: T::Key,
+        spot: Spot<T::Walls>,
+    ) -> Result<(u32, Option<T::Walls>), AllocError>
         requires room { length (rows_of self.old) + 1 < 2 ^ 32 }
         requires reached { IsReached (walls_in self.old) (leads_in self.old) (root_of self.old) (T.Key.numbers key) }
-        requires spot { IsSpot T.order (walls_in self.old) (rows_of self.old) self.old.places.items (T.Key.numbers key) spot }
+        requires spot { IsSpot T.order (walls_in self.old) (found_in self.old) (rows_of self.old) self.old.places.items (T.Key.numbers key) spot }
         ensures names { (terrain_of self.new ≡ terrain_of self.old) × (root_of self.new ≡ root_of self.old) }
         ensures added { OnOk result (Adds (walls_in self.old) (T.Key.numbers key) (rows_of self.old) (rows_of self.new)) }
-        ensures place { IfOk result (λ p. IsAt (keys_of (rows_of self.new)) p (T.Key.numbers key)) }
+        ensures place { IfOk result (λ r. IsAt (keys_of (rows_of self.new)) r.0 (T.Key.numbers key)) }
+        ensures walls { IfOk result (λ r. AreWallsOfAdded (found_in self.old) (keys_of (rows_of self.old)) (keys_of (rows_of self.new)) r.1) }
         ensures same { OnErr result (rows_of self.new ≡ rows_of self.old) }
     {
         match spot {
-            Spot::There(place) => Ok(place),
-            Spot::New { index, walls } => {
+            Spot::There(place) => Ok((place, None)),
+            Spot::New {
+                index,
+                count,
+                walls,
+            } => {
                 let place = self.records.len() as u32;
-                self.add(alloc, key, walls, index)?;
-                Ok(place)
+                self.add(alloc, key, count, index)?;
+                Ok((place, Some(walls)))
             }
         }
     }

@@ -4,7 +4,9 @@ ghost use Rattle.std.specs.Prelude.{◌≡◌, ◌<◌, ℕ, length, map, IfOk, 
 ghost use Rattle.terrain.specs.Places.{IsAt};
 ghost use Rattle.explore_core.specs.Index.{IsIndex, IsGap};
 
+use std::alloc::Global;
 use std::cmp::Ordering;
+use std::sync::Arc;
 use terrain::{Numbers, Terrain};
 
 /// What has a key.
@@ -16,6 +18,17 @@ pub trait Keyed<K> {
 
     fn key(&self) -> &K
         ensures { result.now ≡ key_of self.now };
+}
+
+/// What shares a key has it.
+impl<K> Keyed<K> for Arc<K, Global> {
+    ghost use Rattle.std.specs.Arc.{arc_value};
+
+    ghost key_of = { arc_value };
+
+    fn key(&self) -> &K {
+        &**self
+    }
 }
 
 /// The place of the key among the rows, or the index at which its place would stand among the places, which go by ascending keys.

@@ -37,7 +37,7 @@ impl<T: Terrain> Book<T> {
         };
         let (key, _link) = self.lead_of(alloc, terrain, place, wall)?;
         let spot = self.look_up(alloc, terrain, &key)?;
-        let Ok(_place) = self.put(alloc, key, spot) else {
+        let Ok(_added) = self.put(alloc, key, spot) else {
             return Err(StepFault::Memory);
         };
         Ok(())

@@ -12,7 +12,7 @@ mod terrains;
 pub use graph::{ExploreFault, Graph, Lead};
 pub use laws::reach_is_least;
 pub use numbers::Numbers;
-pub use ring::{Ring, Stuck};
+pub use ring::{Ring, Stuck, TwoWalls};
 pub use stop::Stop;
 pub use terrains::Terrain;
 

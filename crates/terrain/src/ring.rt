@@ -11,6 +11,10 @@ use std::cmp::Ordering;
 #[derive(Clone, Copy, Debug, PartialEq, Eq)]
 pub struct Stuck;
 
+/// The walls of a key, which are two wherever it is.
+#[derive(Clone, Copy, Debug, PartialEq, Eq)]
+pub struct TwoWalls;
+
 /// The keys 0 to n - 1, each with two walls. Wall 0 of k leads to k + 1 and wall 1 to 2·k, both modulo n, with the wall as the link. Where there is a stuck key, both its walls are stuck.
 #[derive(Clone, Copy, Debug, PartialEq, Eq)]
 pub struct Ring {
@@ -44,7 +48,9 @@ impl Terrain for Ring {
 
     type Fault = Stuck;
 
-    ghost use Rattle.std.specs.Prelude.{◌≡◌};
+    type Walls = TwoWalls;
+
+    ghost use Rattle.std.specs.Prelude.{◌≡◌, ⊤};
     ghost use Rattle.std.specs.Ordering.{int_cmp};
     ghost use Rattle.std.specs.Cmp.Lexicographic.{slice_cmp};
     ghost use Rattle.terrain.specs.Rings.{IsRingKey, HasTwo, RingLeads, IsStuckKey, ring_shard};
@@ -53,6 +59,8 @@ impl Terrain for Ring {
     ghost is_own = { IsRingKey };
 
     ghost has_walls = { HasTwo };
+
+    ghost are_walls = { λ t k walls. ⊤ };
 
     ghost leads = { RingLeads };
 
@@ -95,6 +103,20 @@ impl Terrain for Ring {
         let key = u64::from(*key);
         let target = if wall == 0 { key + 1 } else { 2 * key };
         Ok(((target % u64::from(self.keys)) as u32, wall))
+    }
+
+    fn find_walls(&self, _alloc: Global, _key: &u32) -> Result<(u32, TwoWalls), Stop<Stuck>> {
+        Ok((2, TwoWalls))
+    }
+
+    fn cross_found(
+        &self,
+        alloc: Global,
+        key: &u32,
+        _walls: &TwoWalls,
+        wall: u32,
+    ) -> Result<(u32, u32), Stop<Stuck>> {
+        self.cross(alloc, key, wall)
     }
 
     fn copy_key(&self, _alloc: Global, key: &u32) -> Result<u32, AllocError> {

@@ -15,6 +15,9 @@ pub trait Terrain: Numbers + Sync {
 
     type Fault: Send + Sync + Drop;
 
+    /// The walls of a key, so that each is crossed without finding them again.
+    type Walls: Send + Sync + Drop;
+
     ghost use Rattle.std.specs.Prelude.{◌≡◌, ℕ, ◌<◌, ◌≤◌, ℤ, List, IfOk, IfErr};
     ghost use Rattle.std.specs.declared.cmp.Ordering.{Ordering};
     ghost use Rattle.std.specs.declared.cmp.Ordering.TheVariants.{Equal};
@@ -26,6 +29,9 @@ pub trait Terrain: Numbers + Sync {
 
     /// A key has this many walls.
     ghost has_walls: { List ℤ → List ℤ → ℕ → Type 0 };
+
+    /// These are a key's walls.
+    ghost are_walls: { List ℤ → List ℤ → Self.Walls → Type 0 };
 
     /// A key's wall leads to a key, by a link.
     ghost leads: { List ℤ → List ℤ → ℕ → List ℤ → Self.Link → Type 0 };
@@ -56,6 +62,31 @@ pub trait Terrain: Numbers + Sync {
         wall: u32,
     ) -> Result<(Self::Key, Self::Link), Stop<Self::Fault>>
         requires own { is_own (Self.numbers self.now) (Self.Key.numbers key.now) }
+        requires wall { (n : ℕ) × has_walls (Self.numbers self.now) (Self.Key.numbers key.now) n × (wall < n) }
+        ensures lead { IfOk result (λ r. leads (Self.numbers self.now) (Self.Key.numbers key.now) wall (Self.Key.numbers r.0) r.1) }
+        ensures stuck { IfErr result (λ stop. IfFault stop (is_stuck_at (Self.numbers self.now) (Self.Key.numbers key.now) wall)) };
+
+    /// The number of a key's walls, and the walls. Fault: the key is stuck.
+    fn find_walls(
+        &self,
+        alloc: Global,
+        key: &Self::Key,
+    ) -> Result<(u32, Self::Walls), Stop<Self::Fault>>
+        requires { is_own (Self.numbers self.now) (Self.Key.numbers key.now) }
+        ensures walls { IfOk result (λ r. has_walls (Self.numbers self.now) (Self.Key.numbers key.now) r.0) }
+        ensures found { IfOk result (λ r. are_walls (Self.numbers self.now) (Self.Key.numbers key.now) r.1) }
+        ensures stuck { IfErr result (λ stop. IfFault stop (is_stuck (Self.numbers self.now) (Self.Key.numbers key.now))) };
+
+    /// The key to which one of the walls that were found leads, and the link. Fault: the key's wall is stuck.
+    fn cross_found(
+        &self,
+        alloc: Global,
+        key: &Self::Key,
+        walls: &Self::Walls,
+        wall: u32,
+    ) -> Result<(Self::Key, Self::Link), Stop<Self::Fault>>
+        requires own { is_own (Self.numbers self.now) (Self.Key.numbers key.now) }
+        requires found { are_walls (Self.numbers self.now) (Self.Key.numbers key.now) walls.now }
         requires wall { (n : ℕ) × has_walls (Self.numbers self.now) (Self.Key.numbers key.now) n × (wall < n) }
         ensures lead { IfOk result (λ r. leads (Self.numbers self.now) (Self.Key.numbers key.now) wall (Self.Key.numbers r.0) r.1) }
         ensures stuck { IfErr result (λ stop. IfFault stop (is_stuck_at (Self.numbers self.now) (Self.Key.numbers key.now) wall)) };

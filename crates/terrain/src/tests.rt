@@ -16,6 +16,11 @@ fn a_ring_leads_round(rt: HostRuntime) -> Result<(), Fail> {
     ] {
         assert_eq!(rt; ring.walls(rt.alloc(), &key), Ok(2));
         assert_eq!(rt; ring.cross(rt.alloc(), &key, wall), Ok((target, wall)));
+        assert_eq!(rt; ring.find_walls(rt.alloc(), &key), Ok((2, TwoWalls)));
+        assert_eq!(rt;
+            ring.cross_found(rt.alloc(), &key, &TwoWalls, wall),
+            Ok((target, wall))
+        );
         assert_eq!(rt; ring.copy_key(rt.alloc(), &key), Ok(key));
     }
     for wall in 0..2 {

@@ -1,13 +1,15 @@
-use Rattle.std.proofs.Common.{refl, sym, ap, subst, inl, Err, None, Some}
+use Rattle.std.proofs.Common.{◌∙◌, refl, sym, ap, subst, inl, Err, None, Some}
 use Rattle.std.proofs.lemmas.Result.{err_from_is_err_and}
 use Rattle.terrain.specs.declared.graph.ExploreFault.TheVariants.{Fault}
 use Rattle.terrain.specs.Places.{IsAt}
 use Rattle.terrain.specs.Reach.{IsReached}
 use Rattle.terrain.proofs.CallerLemmas.{at_one, at_map, set_here}
-use Rattle.std.specs.Prelude.{List}
-use Rattle.explore_core.specs.Books.{Row, IsFilled}
+use Rattle.std.specs.Prelude.{List, ℤ}
+use Rattle.explore_core.specs.Books.{Row, IsFilled, keys_of}
 use Rattle.explore_core.specs.Events.{with_slot}
+use Rattle.explore_core.specs.Places.{AreWallsOfAdded}
 use Rattle.explore_core.specs.Views.{rows_of}
+use Rattle.explore_core.proofs.Sound.{keys_of-set}
 use Rattle.explore_core.proofs.CallerLemmas.{added_at}
 use Rattle.explore_core.proofs.MetAndFilled.{met_and_filled, err_is}
 use Rattle.explore_core.proofs.book.Book.fill_slot.Goals as goal
@@ -73,3 +75,11 @@ returns-clause-filled g c =
     let stays = added_at (g.T.Terrain.has_walls t) rows met (numbers c.in_ok-key.key) c.in_ok-to.ensures.added c.args.place s.0 s.1 in
     let empty = subst (λ (r : Row _). IsAt r.slots c.args.wall None) (at_one met c.args.place s.0 w.0 stays w.2) s.2 in
     subst (λ (l : List (Row _)). IsFilled l c.args.place c.args.wall) (sym w.4) (with_slot w.0 c.args.wall (record { target = w.1; link = c.in_ok-key.link }), record { target = w.1; link = c.in_ok-key.link }, set_here met c.args.place w.0 (with_slot w.0 c.args.wall (record { target = w.1; link = c.in_ok-key.link })) w.2, set_here w.0.slots c.args.wall None (Some (record { target = w.1; link = c.in_ok-key.link })) empty)
+
+pub returns-clause-walls : goal.returns-clause-walls
+returns-clause-walls g c =
+    let t = g.T.Numbers.numbers c.args.self.now.terrain.value in
+    let met = rows_of c.put_or_fault.new.self in
+    let w = c.write.ensures.filled in
+    let keys = ap keys_of w.4 ∙ keys_of-set met c.args.place c.args.wall w.0 (record { target = w.1; link = c.in_ok-key.link }) w.2 in
+    subst (λ (l : List (List ℤ)). AreWallsOfAdded (g.T.Terrain.are_walls t) (keys_of (rows_of c.args.self.now)) l c.in_ok-to.added) (sym keys) c.in_ok-to.ensures.walls

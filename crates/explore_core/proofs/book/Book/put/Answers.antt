@@ -20,6 +20,6 @@ returns-in_ok-add-in-New-clause-place g c =
     let numbers = g.T.Key.Numbers.numbers in
     let book = c.args.self.now in
     let rows = rows_of book in
-    let new = ap keys_of c.in_ok-add-in-New.ensures.added ∙ keys_of-append rows (numbers c.args.key) c.in-New.walls in
+    let new = ap keys_of c.in_ok-add-in-New.ensures.added ∙ keys_of-append rows (numbers c.args.key) c.in-New.count in
     let place : length (keys_of rows) ≡ c.len-place.result = (let v = book.records.ok.0 in let l = length-map book.records.items (row_of numbers) in let m = length-map rows (λ (r : Row _). r.key) in let e = c.len-place.ensures in omega arith) in
     subst (λ (l : List (List ℤ)). IsAt l c.len-place.result (numbers c.args.key)) (sym new) (subst (λ i. IsAt (keys_of rows ++ numbers c.args.key ∷ []) i (numbers c.args.key)) place (snoc_end (keys_of rows) (numbers c.args.key)))

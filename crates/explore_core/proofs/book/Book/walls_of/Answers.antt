@@ -2,8 +2,8 @@ use Rattle.std.proofs.Common.{refl}
 use Rattle.explore_core.proofs.Known.{own_as, own_of}
 use Rattle.explore_core.proofs.book.Book.walls_of.Goals as goal
 
-pub walls-requires : goal.walls-requires
-walls-requires g c =
+pub find_walls-requires : goal.find_walls-requires
+find_walls-requires g c =
     let laws = g.met.T.Terrain g.world.𝓛 g.world.𝓜 g.world.𝓡 ((λ s x. x), (λ x. x), (λ x. x), λ x. x) in
     let book = c.args.self.now in
     let t = g.T.Numbers.numbers book.terrain.value in
