@@ -23,3 +23,6 @@ pub mod Listings
 pub mod Refused
 pub mod Compared
 pub mod WholeFrames
+pub mod Merely
+pub mod Carriers
+pub mod CallerLemmas

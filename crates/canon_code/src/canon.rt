@@ -1,13 +1,14 @@
 //! The code of a triangulation, with its starts.
 
-ghost use Rattle.std.specs.Prelude.{◌≡◌, ℕ, pos, ◌+◌, ◌<◌, ◌<ℤ◌, ◌∷◌, [], length, slice_get, Some, IfOk, IfErr};
-ghost use Rattle.plane.specs.Matrices.{IsReducedTo};
+ghost use Rattle.std.specs.Prelude.{◌≡◌, ℕ, pos, ◌+◌, ◌<◌, ◌<ℤ◌, ◌∷◌, [], length, slice_get, Some, IfOk, IfErr, ℤ, ◌≤◌, ◌++◌};
+ghost use Rattle.plane.specs.Matrices.{IsReducedTo, IsInLowestTerms};
 ghost use Rattle.tri_core.specs.Images.{IsImageBy, CarriesFrame};
-ghost use Rattle.canon_code.specs.Codes.{IsCode, AreStarts};
+ghost use Rattle.canon_code.specs.Codes.{IsCode, AreStarts, IsStart};
 ghost use Rattle.canon_code.specs.Least.{IsBestTo};
-ghost use Rattle.canon_code.specs.Canonical.{canonical, frame, ThirdVectorsFit, IsMade};
+ghost use Rattle.canon_code.specs.Canonical.{canonical, frame, ThirdVectorsFit, IsMade, number_at};
 ghost use Rattle.canon_code.specs.Tries.{IsTried, tried_serial};
 ghost use Rattle.canon_code.specs.FrameWidth.{FrameFits, HasWideFrame};
+ghost use Rattle.std.specs.declared.cmp.Ordering.TheVariants.{Less, Equal, Greater};
 ghost use Rattle.canon_code.specs.declared.fault.CanonFault.TheVariants.{Wide};
 
 use super::coordinates::Coordinates;
@@ -154,6 +155,30 @@ fn frame_at(tri: &Tri, h: u32, scale: i128) -> Mat2
     let e = tri.half(h).vec;
     let g = tri.half(Tri::next(h)).vec;
     Mat2::reduced([e.s, g.s, e.t, g.t], scale)
+}
+
+/// The number at place 1: the scale.
+fn scale_number(numbers: &[i128]) -> i128
+    requires { 1 < length numbers.now }
+    ensures { result ≡ number_at numbers.now 1 }
+{
+    numbers[1]
+}
+
+/// The frame of a start of the least serial: it takes the canonical triangulation to `tri`, half-edge 0 to the start.
+pub fn frame_of(f: &Field, tri: &Tri, code: &Code, start: u32) -> Mat2
+    requires field { f.now ≡ tri.now.field }
+    requires start { IsStart f.now tri.now.halves code.now start }
+    ensures frame { CarriesFrame f.now result.rows result.denominator (canonical f.now code.now) 0 tri.now.halves start }
+    ensures lowest { IsInLowestTerms result }
+{
+    let _number = f.number();
+    let _count = tri.triangles();
+    let numbers = code.numbers();
+    let scale = scale_number(numbers);
+    let frame = frame_at(tri, start, scale);
+    let _lowest = frame.denominator();
+    frame
 }
 
 /// The code of a triangulation. `frame` takes the canonical triangulation to `tri`, half-edge 0 to `start`.

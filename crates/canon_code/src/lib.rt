@@ -7,6 +7,7 @@ mod code;
 mod coordinates;
 mod fault;
 pub mod laws;
+mod number_list;
 mod numbering;
 mod reader;
 mod serial;
@@ -14,7 +15,7 @@ mod text;
 mod triangulation;
 mod whole;
 
-pub use canon::{Canon, canon_of};
+pub use canon::{Canon, canon_of, frame_of};
 pub use code::Code;
 pub use fault::{CanonFault, CodeFault};
 pub use reader::read_code;

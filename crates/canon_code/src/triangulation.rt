@@ -200,7 +200,7 @@ pub(crate) fn halves_of(alloc: Global, numbers: &[i128], count: u32) -> Result<V
 
 /// The canonical triangulation of a code.
 pub fn tri_of(alloc: Global, f: &Field, code: &Code) -> Result<Tri, AllocError>
-    requires { IsMade f.now code.now }
+    requires { ∥ IsMade f.now code.now ∥₁ }
     ensures { IfOk result (λ tri. tri ≡ record { field = f.now; halves = canonical f.now code.now }) }
 {
     let _number = f.number();

@@ -76,7 +76,7 @@ same_numbers one other up also forth back = same_list (λ n. n) 0 one other up a
 
 module _ (d : ℕ) (field : IsFieldNumber d) (halves : List Half) (valid : IsTriangulation d halves) where
   -- two walls with an edge in common are one
-  one_wall : (form other : Triple) (edges others : List ℕ) (h : ℕ) → IsWall d halves form edges → IsWall d halves other others → Contains edges h → Contains others h
+  pub one_wall : (form other : Triple) (edges others : List ℕ) (h : ℕ) → IsWall d halves form edges → IsWall d halves other others → Contains edges h → Contains others h
       → (form ≡ other) × (edges ≡ others)
   one_wall form other edges others h wall also has holds = (same_form, same_edges)
     where
