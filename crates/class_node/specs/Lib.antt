@@ -1,0 +1,10 @@
+pub mod Classes
+pub mod Found
+pub mod Leads
+pub mod Stuck
+pub mod Shards
+pub mod Correspondence
+pub mod Reached
+pub mod Once
+pub mod Residues
+pub mod TerrainLaws
