@@ -1,0 +1,12 @@
+pub mod TreeSearch
+pub mod TreeMatrices
+pub mod SearchLists
+pub mod DistinctMatrices
+pub mod Values
+pub mod WideCauses
+pub mod Rows
+pub mod Graphs
+pub mod InverseLists
+pub mod OneTree
+pub mod OneList
+pub mod CallerLemmas
