@@ -1,0 +1,15 @@
+pub mod Groups
+pub mod Generation
+pub mod Matrices
+pub mod Lists
+pub mod Trees
+pub mod Sums
+pub mod FlippedAreas
+pub mod Areas
+pub mod Images
+pub mod Carriers
+pub mod Frames
+pub mod Classes
+pub mod Theorem
+pub mod Places
+pub mod CallerLemmas
