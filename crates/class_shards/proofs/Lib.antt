@@ -1,0 +1,10 @@
+pub mod Keepers
+pub mod Stored
+pub mod Indices
+pub mod Agrees
+pub mod Fills
+pub mod Filling
+pub mod NewKey
+pub mod Fresh
+pub mod Meetings
+pub mod Ringed

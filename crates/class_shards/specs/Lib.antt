@@ -1,0 +1,10 @@
+pub mod Names
+pub mod Keepers
+pub mod Targets
+pub mod Entries
+pub mod Rows
+pub mod Agreement
+pub mod Stored
+pub mod Meetings
+pub mod Tickets
+pub mod Views
