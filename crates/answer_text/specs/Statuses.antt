@@ -2,7 +2,7 @@
 use Rattle.std.specs.Prelude.{ℕ, ⊤}
 use Rattle.surface_text.specs.Limits.{IsBasePoint}
 use Rattle.answer_text.specs.declared.status.Status.{Status}
-use Rattle.answer_text.specs.declared.status.Status.TheVariants.{Done, Words, File, NotStrict, FlipsEnded, TooWide, ReadFault, WriteFault, Memory, No}
+use Rattle.answer_text.specs.declared.status.Status.TheVariants.{Done, Words, File, NotStrict, FlipsEnded, TooWide, LimitPassed, ReadFault, WriteFault, Memory, No}
 
 -- the number of each status
 abbrev pub number_of : Status → ℕ
@@ -12,6 +12,7 @@ number_of (File cause line) = 3
 number_of (NotStrict edge) = 4
 number_of (FlipsEnded point) = 5
 number_of (TooWide formula place) = 6
+number_of (LimitPassed limit) = 7
 number_of ReadFault = 8
 number_of WriteFault = 9
 number_of Memory = 10

@@ -27,6 +27,7 @@ pub fn fault_line(alloc: Global, status: &Status) -> Result<Vec<u8>, AllocError>
         Status::NotStrict { edge } => strict_line(alloc, *edge),
         Status::FlipsEnded { point } => flips_line(alloc, point),
         Status::TooWide { formula, place } => wide_line(alloc, *formula, place),
+        Status::LimitPassed { limit } => limit_line(alloc, *limit),
         Status::ReadFault => Vec::from_slice(alloc, b"fault read\n"),
         Status::WriteFault => Vec::from_slice(alloc, b""),
         Status::Memory => Vec::from_slice(alloc, b"fault memory\n"),
@@ -65,6 +66,16 @@ fn flips_line(alloc: Global, point: &Point) -> Result<Vec<u8>, AllocError>
 {
     let mut text = Vec::from_slice(alloc, b"fault flips ")?;
     put_point(alloc, &mut text, point)?;
+    text.extend_from_slice(b"\n")?;
+    Ok(text)
+}
+
+/// The line of a limit that was passed.
+fn limit_line(alloc: Global, limit: u32) -> Result<Vec<u8>, AllocError>
+    ensures { IfOk result (λ text. text.items ≡ status_line (Status.LimitPassed limit)) }
+{
+    let mut text = Vec::from_slice(alloc, b"fault limit ")?;
+    put_natural(alloc, &mut text, u64::from(limit))?;
     text.extend_from_slice(b"\n")?;
     Ok(text)
 }

@@ -8,7 +8,7 @@ use quad_field::Formula;
 use surface_text::Point;
 
 /// How a run ends. Each status but `Done` and `WriteFault` has written its one line in place of the output.
-#[derive(Debug, PartialEq, Eq, Drop)]
+#[derive(Drop)]
 pub enum Status {
     /// The output was written whole.
     Done,
@@ -22,6 +22,8 @@ pub enum Status {
     FlipsEnded { point: Point },
     /// A step of this formula lies outside 128 bits at this place.
     TooWide { formula: Formula, place: Place },
+    /// More classes are reached than the limit of the command.
+    LimitPassed { limit: u32 },
     /// The source failed.
     ReadFault,
     /// The sink failed; a prefix of what was to be written stands there.
@@ -43,6 +45,7 @@ pub fn status_number(status: &Status) -> u8
         Status::NotStrict { .. } => 4,
         Status::FlipsEnded { .. } => 5,
         Status::TooWide { .. } => 6,
+        Status::LimitPassed { .. } => 7,
         Status::ReadFault => 8,
         Status::WriteFault => 9,
         Status::Memory => 10,

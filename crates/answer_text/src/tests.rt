@@ -17,13 +17,14 @@ fn each_status_has_its_number(rt: HostRuntime) -> Result<(), Fail> {
         formula: Formula::F12,
         place: Place::Flips { flips: 7, edge: 30 },
     };
-    let rows: [(Status, u8); 10] = [
+    let rows: [(Status, u8); 11] = [
         (Status::Done, 0),
         (Status::Words, 2),
         (Status::File { cause: 16, line: 3 }, 3),
         (Status::NotStrict { edge: 2 }, 4),
         (Status::FlipsEnded { point }, 5),
         (wide, 6),
+        (Status::LimitPassed { limit: 20 }, 7),
         (Status::ReadFault, 8),
         (Status::WriteFault, 9),
         (Status::Memory, 10),
