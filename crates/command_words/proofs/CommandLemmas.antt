@@ -1,14 +1,14 @@
 -- Words name one command.
-use Rattle.std.proofs.Common.{◌≡◌, ◌∙◌, ℕ, List, [], ◌∷◌, ◌++◌, map, codes, Option, Some, None, IsSome, true≢false, MatchOption, refl, ap, ap₂, sym, subst, arith}
+use Rattle.std.proofs.Common.{◌≡◌, ◌∙◌, ℕ, List, [], ◌∷◌, ◌++◌, map, codes, Option, Some, None, Bool, false, IsTrue, ◌↔◌, IsSome, true≢false, MatchOption, refl, ap, ap₂, sym, subst, arith}
 use Rattle.std.specs.Prelude.{IsSomeAnd, get_or}
 use Rattle.std.specs.List.{AllByRecursion, flat_map}
 use Rattle.std.proofs.lemmas.List.{append_assoc}
 use Rattle.plane.specs.Spelling.{natural_text}
 use Rattle.command_words.specs.declared.rows.NumberBounds.{NumberBounds}
 use Rattle.command_words.specs.declared.command.Command.{Command}
-use Rattle.command_words.specs.declared.command.Command.TheVariants.{Check, Base, Region, Path}
+use Rattle.command_words.specs.declared.command.Command.TheVariants.{Check, Base, Region, Path, Plain}
 use Rattle.command_words.specs.Lines.{OptionRow, CommandRow, Given, given_words, IsGivenOf, IsLine, IsTaken, number_given}
-use Rattle.command_words.specs.Grammar.{check_row, base_row, region_row, path_row, flips_option}
+use Rattle.command_words.specs.Grammar.{check_row, base_row, region_row, path_row, plain_row, flips_option, limit_option}
 use Rattle.command_words.specs.Commands.{IsNumberOf, Names, AreTaken}
 use Rattle.command_words.specs.Fronts.{IsRow}
 use Rattle.command_words.proofs.GivenLemmas.{one_given}
@@ -33,6 +33,24 @@ region_taken words (options, plain, line) = let (flips, is) = some_number flips_
 
 pub path_taken : (words : List (List ℕ)) → IsTaken path_row words → AreTaken words
 path_taken words (options, plain, line) = let (flips, is) = some_number flips_option options refl in (Path flips plain, (options, plain, line, (is, refl)))
+
+pub plain_taken : (words : List (List ℕ)) → IsTaken plain_row words → AreTaken words
+plain_taken words (options, plain, line) =
+    let (flips, is) = some_number flips_option options refl in
+    let (limit, has) = some_number limit_option options refl in
+    (Plain flips limit, (options, plain, line, (is, has)))
+
+-- and words that are a line of no row name none
+pub refused_row : (row : CommandRow) (slice words : List (List ℕ)) (r : Bool) → slice ≡ words → (IsTrue r ↔ IsTaken row slice) → r ≡ false → ¬ (IsTaken row words)
+refused_row row slice words r same tells unlike taken = true≢false (sym (tells.1 (subst (IsTaken row) (sym same) taken)) ∙ unlike)
+
+pub none_taken : (words : List (List ℕ)) → ¬ (IsTaken check_row words) → ¬ (IsTaken base_row words) → ¬ (IsTaken region_row words) → ¬ (IsTaken path_row words) → ¬ (IsTaken plain_row words)
+    → ¬ (AreTaken words)
+none_taken words check base region path plain (Check, (options, values, line, is)) = check (options, values, line)
+none_taken words check base region path plain (Base flips, (options, values, line, is)) = base (options, values, line)
+none_taken words check base region path plain (Region flips, (options, values, line, is)) = region (options, values, line)
+none_taken words check base region path plain (Path flips choices, (options, values, line, is)) = path (options, values, line)
+none_taken words check base region path plain (Plain flips limit, (options, values, line, is)) = plain (options, values, line)
 
 -- ---- a line has one spelling
 same_line : (row : CommandRow) → IsRow row → (options others : List Given) (plain values : List ℕ) → AllByRecursion (IsGivenOf row.options) options → AllByRecursion (IsGivenOf row.options) others
@@ -75,6 +93,15 @@ region_is = ((((λ e. cc), flips_letters, (λ e. cc)), tt), (tt, tt))
 path_is : IsRow path_row
 path_is = ((((λ e. cc), flips_letters, (λ e. cc)), tt), (tt, tt))
 
+limit_letters : AllByRecursion (λ byte. ¬ (byte ≡ 61)) (codes "limit")
+limit_letters = ((λ e. omega arith), ((λ e. omega arith), ((λ e. omega arith), ((λ e. omega arith), ((λ e. omega arith), tt)))))
+
+pub limit_flips : ¬ (codes "limit" ≡ codes "flips")
+limit_flips e = let first : get_or (codes "limit") 0 0 ≡ get_or (codes "flips") 0 0 = ap (λ (word : List ℕ). get_or word 0 0) e in omega (arith, first)
+
+plain_is : IsRow plain_row
+plain_is = ((((λ e. cc), flips_letters, (λ e. cc)), (((λ e. cc), limit_letters, (λ e. cc)), tt)), ((limit_flips, tt), (tt, tt)))
+
 -- lines of rows with different words differ
 other_word : (row other : CommandRow) (words : List (List ℕ)) → ¬ (row.word ≡ other.word) → (options others : List Given) (plain values : List ℕ) → IsLine row options plain words → ¬ (IsLine other others values words)
 other_word row other words apart options others plain values line also =
@@ -99,6 +126,18 @@ base_path e = let first : get_or (codes "base") 0 0 ≡ get_or (codes "path") 0 
 region_path : ¬ (codes "region" ≡ codes "path")
 region_path e = let first : get_or (codes "region") 0 0 ≡ get_or (codes "path") 0 0 = ap (λ (word : List ℕ). get_or word 0 0) e in omega (arith, first)
 
+check_plain : ¬ (codes "check" ≡ codes "plain")
+check_plain e = let first : get_or (codes "check") 0 0 ≡ get_or (codes "plain") 0 0 = ap (λ (word : List ℕ). get_or word 0 0) e in omega (arith, first)
+
+base_plain : ¬ (codes "base" ≡ codes "plain")
+base_plain e = let first : get_or (codes "base") 0 0 ≡ get_or (codes "plain") 0 0 = ap (λ (word : List ℕ). get_or word 0 0) e in omega (arith, first)
+
+region_plain : ¬ (codes "region" ≡ codes "plain")
+region_plain e = let first : get_or (codes "region") 0 0 ≡ get_or (codes "plain") 0 0 = ap (λ (word : List ℕ). get_or word 0 0) e in omega (arith, first)
+
+path_plain : ¬ (codes "path" ≡ codes "plain")
+path_plain e = let second : get_or (codes "path") 1 0 ≡ get_or (codes "plain") 1 0 = ap (λ (word : List ℕ). get_or word 1 0) e in omega (arith, second)
+
 pub one_command : (words : List (List ℕ)) (one other : Command) → Names words one → Names words other → one ≡ other
 one_command words Check Check h k = refl
 one_command words Check (Base n) h k = absurd (other_word check_row base_row words check_base h.0 k.0 h.1 k.1 h.2 k.2)
@@ -113,6 +152,14 @@ one_command words (Region m) (Path n choices) h k = absurd (other_word region_ro
 one_command words (Path m choices) Check h k = absurd (other_word check_row path_row words check_path k.0 h.0 k.1 h.1 k.2 h.2)
 one_command words (Path m choices) (Base n) h k = absurd (other_word base_row path_row words base_path k.0 h.0 k.1 h.1 k.2 h.2)
 one_command words (Path m choices) (Region n) h k = absurd (other_word region_row path_row words region_path k.0 h.0 k.1 h.1 k.2 h.2)
+one_command words Check (Plain n limit) h k = absurd (other_word check_row plain_row words check_plain h.0 k.0 h.1 k.1 h.2 k.2)
+one_command words (Base m) (Plain n limit) h k = absurd (other_word base_row plain_row words base_plain h.0 k.0 h.1 k.1 h.2 k.2)
+one_command words (Region m) (Plain n limit) h k = absurd (other_word region_row plain_row words region_plain h.0 k.0 h.1 k.1 h.2 k.2)
+one_command words (Path m choices) (Plain n limit) h k = absurd (other_word path_row plain_row words path_plain h.0 k.0 h.1 k.1 h.2 k.2)
+one_command words (Plain m limit) Check h k = absurd (other_word check_row plain_row words check_plain k.0 h.0 k.1 h.1 k.2 h.2)
+one_command words (Plain m limit) (Base n) h k = absurd (other_word base_row plain_row words base_plain k.0 h.0 k.1 h.1 k.2 h.2)
+one_command words (Plain m limit) (Region n) h k = absurd (other_word region_row plain_row words region_plain k.0 h.0 k.1 h.1 k.2 h.2)
+one_command words (Plain m limit) (Path n choices) h k = absurd (other_word path_row plain_row words path_plain k.0 h.0 k.1 h.1 k.2 h.2)
 one_command words (Base m) (Base n) (options, plain, line, is) (others, values, also, so) =
     let same = one_line base_row base_is words options others plain values line also in
     ap Base (same_number flips_option options m n is (subst (λ os. IsNumberOf flips_option os n) (sym same.0) so))
@@ -122,3 +169,7 @@ one_command words (Region m) (Region n) (options, plain, line, is) (others, valu
 one_command words (Path m choices) (Path n others) (options, plain, line, is) (also_options, values, also, so) =
     let same = one_line path_row path_is words options also_options plain values line also in
     ap₂ Path (same_number flips_option options m n is.0 (subst (λ os. IsNumberOf flips_option os n) (sym same.0) so.0)) (is.1 ∙ same.1 ∙ sym so.1)
+one_command words (Plain m limit) (Plain n other) (options, plain, line, is) (others, values, also, so) =
+    let same = one_line plain_row plain_is words options others plain values line also in
+    ap₂ Plain (same_number flips_option options m n is.0 (subst (λ os. IsNumberOf flips_option os n) (sym same.0) so.0))
+    (same_number limit_option options limit other is.1 (subst (λ os. IsNumberOf limit_option os other) (sym same.0) so.1))

@@ -31,6 +31,22 @@ module _ (row : CommandRow) (distinct : AreDistinct (map (λ o. o.name) row.opti
       at true same e later = taken_number numbers g.value n (subst (λ o. Takes o g.value) is_number (takes_of row.options one g distinct among given.0 ((bytes_eq-Decides g.name one.name).0 same))) (rw same at e)
       at false same e later = later (rw same at e)
 
+  -- the number of an option lies within its bounds, given or not
+  pub number_within : (options : List Given) → AllByRecursion (IsGivenOf row.options) options → numbers.unless_given ≤ numbers.most → (n : ℕ) → IsNumberOf one options n → n ≤ numbers.most
+  number_within options given default n is =
+      at (number_given one.name options) one.numbers is_number (given_number options given) is
+    where
+      at : (o : Option ℕ) (own : Option NumberBounds) → own ≡ Some numbers → ((m : ℕ) → o ≡ Some m → m ≤ numbers.most)
+          → MatchOption o (IsSomeAnd own (λ numbers. n ≡ numbers.unless_given)) (λ m. n ≡ m) → n ≤ numbers.most
+      at (Some m) own e within h = let most = within m refl in omega (arith, most, h)
+      at None (Some own) e within h =
+          let same : own.unless_given ≡ numbers.unless_given = ap (λ (o : Option NumberBounds). unless o) e in omega (arith, default, same, h)
+        where
+          unless : Option NumberBounds → ℕ
+          unless None = 0
+          unless (Some numbers) = numbers.unless_given
+      at None None e within h = absurd h
+
   module _ (options : List Given) (plain : List ℕ) (found : Found) (holds : HoldsLine row options plain found) where
     held : first_value found one.name ≡ option_map natural_text (number_given one.name options)
     held = holds.numbers one among (subst IsSome (sym is_number) refl)

@@ -1,9 +1,9 @@
 -- The commands, and the words that name them.
 use Rattle.std.specs.Prelude.{◌≡◌, ℕ, List, MatchOption, IsSomeAnd, ⊤}
 use Rattle.command_words.specs.Lines.{OptionRow, CommandRow, Given, IsLine, number_given}
-use Rattle.command_words.specs.Grammar.{check_row, base_row, region_row, path_row, flips_option}
+use Rattle.command_words.specs.Grammar.{check_row, base_row, region_row, path_row, plain_row, flips_option, limit_option}
 use Rattle.command_words.specs.declared.command.Command.{Command}
-use Rattle.command_words.specs.declared.command.Command.TheVariants.{Check, Base, Region, Path}
+use Rattle.command_words.specs.declared.command.Command.TheVariants.{Check, Base, Region, Path, Plain}
 
 -- the number of an option in a line: the one that it is given there, or else the one that stands unless it is given
 abbrev pub IsNumberOf : OptionRow → List Given → ℕ → Type 0
@@ -15,6 +15,7 @@ row_of_command Check = check_row
 row_of_command (Base flips) = base_row
 row_of_command (Region flips) = region_row
 row_of_command (Path flips choices) = path_row
+row_of_command (Plain flips limit) = plain_row
 
 -- the options and the plain values of a line say what the command has
 abbrev pub AreRead : Command → List Given → List ℕ → Type 0
@@ -22,6 +23,7 @@ AreRead Check options plain = ⊤
 AreRead (Base flips) options plain = IsNumberOf flips_option options flips
 AreRead (Region flips) options plain = IsNumberOf flips_option options flips
 AreRead (Path flips choices) options plain = IsNumberOf flips_option options flips × (choices ≡ plain)
+AreRead (Plain flips limit) options plain = IsNumberOf flips_option options flips × IsNumberOf limit_option options limit
 
 -- the words of a command line name this command: they are a line of its row, and say what it has
 abbrev pub Names : List (List ℕ) → Command → Type 0

@@ -2,14 +2,14 @@
 
 ghost use Rattle.std.specs.Prelude.{◌≡◌, map, string_bytes, MatchOption, IfOk};
 ghost use Rattle.command_words.specs.Lines.{IsTaken};
-ghost use Rattle.command_words.specs.Grammar.{check_row, base_row, region_row, path_row};
+ghost use Rattle.command_words.specs.Grammar.{check_row, base_row, region_row, path_row, plain_row};
 ghost use Rattle.command_words.specs.Commands.{Names, AreTaken};
 
-use super::grammar::{BASE, CHECK, FLIPS, PATH, REGION};
+use super::grammar::{BASE, CHECK, FLIPS, LIMIT, PATH, PLAIN, REGION};
 use super::lines::is_line;
 use super::parsing::parse;
 use super::values::{choices_of, number_of};
-use super::{Choices, WordList};
+use super::{Choices, ClassLimit, WordList};
 use std::alloc::{AllocError, Global};
 
 /// A command with what its words say.
@@ -23,6 +23,8 @@ pub enum Command {
     Region { flips: u32 },
     /// The end of a walk from that base through the walls that are chosen.
     Path { flips: u32, choices: Choices },
+    /// The classes that crossings reach from that base, where they are no more than the limit.
+    Plain { flips: u32, limit: ClassLimit },
 }
 
 /// The command that the words name: none exactly where they aren't in the grammar.
@@ -44,6 +46,9 @@ pub fn read_command(alloc: Global, words: &WordList) -> Result<Option<Command>, 
     }
     if is_line(&PATH, words) {
         return Ok(Some(path(alloc, words)?));
+    }
+    if is_line(&PLAIN, words) {
+        return Ok(Some(plain(alloc, words)?));
     }
     Ok(None)
 }
@@ -86,4 +91,18 @@ fn path(alloc: Global, words: &[String]) -> Result<Command, AllocError>
     let flips = number_of(&matches, &FLIPS);
     let choices = choices_of(alloc, &matches)?;
     Ok(Command::Path { flips, choices })
+}
+
+/// The command of a line of `plain`.
+fn plain(alloc: Global, words: &[String]) -> Result<Command, AllocError>
+    requires { IsTaken plain_row (map string_bytes words.now) }
+    ensures { IfOk result (Names (map string_bytes words.now)) }
+{
+    let matches = parse(alloc, &PLAIN, words)?;
+    let flips = number_of(&matches, &FLIPS);
+    let limit = number_of(&matches, &LIMIT);
+    Ok(Command::Plain {
+        flips,
+        limit: ClassLimit::new(limit),
+    })
 }

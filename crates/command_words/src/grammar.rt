@@ -12,6 +12,16 @@ pub(crate) const FLIPS: OptionRow = OptionRow {
     }),
 };
 
+/// How many classes may be reached.
+pub(crate) const LIMIT: OptionRow = OptionRow {
+    name: "limit",
+    numbers: Some(NumberBounds {
+        least: 1,
+        most: 2048,
+        unless_given: 1024,
+    }),
+};
+
 /// No plain values.
 const NO_PLAIN: PlainBounds = PlainBounds {
     fewest: 0,
@@ -49,4 +59,11 @@ pub(crate) const PATH: CommandRow = CommandRow {
         most: 4096,
         below: 1000,
     },
+};
+
+/// `plain [--flips N] [--limit K]`.
+pub(crate) const PLAIN: CommandRow = CommandRow {
+    word: "plain",
+    options: &[FLIPS, LIMIT],
+    plain: NO_PLAIN,
 };

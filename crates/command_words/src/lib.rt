@@ -3,6 +3,7 @@
 #![tactic(auto)]
 
 mod choices;
+mod class_limit;
 mod command;
 mod fronts;
 mod grammar;
@@ -14,5 +15,6 @@ mod values;
 mod words;
 
 pub use choices::Choices;
+pub use class_limit::ClassLimit;
 pub use command::{Command, read_command};
 pub use words::WordList;
