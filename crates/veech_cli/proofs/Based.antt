@@ -1,6 +1,6 @@
 -- What the flipping of a triangulation says of the input that it was made from.
 use Rattle.std.proofs.Common.{◌≡◌, ℕ, inl, inr, refl, List, length, ap, sym, ◌∙◌, subst, Err}
-use Rattle.std.specs.Prelude.{Ok, ◌⊎◌}
+use Rattle.std.specs.Prelude.{Ok, ◌⊎◌, ℤ, Option}
 use Rattle.canon_code.specs.FrameWidth.{HasWideFrame}
 use Rattle.path_walk.specs.Walks.{IsEnd}
 use Rattle.surface_text.specs.Spelling.{Content}
@@ -14,18 +14,18 @@ use Rattle.delaunay_flip.specs.Bases.{Ending, EndsListed}
 use Rattle.delaunay_flip.specs.Answers.{IsRight}
 use Rattle.quad_field.specs.declared.formula.Formula.{Formula}
 use Rattle.quad_field.specs.declared.formula.Formula.TheVariants.{F1}
-use Rattle.answer_text.specs.declared.status.Status.TheVariants.{Done, NotStrict, FlipsEnded, TooWide, No, Memory}
+use Rattle.answer_text.specs.declared.status.Status.TheVariants.{Done, NotStrict, FlipsEnded, TooWide, LimitPassed, No, Memory}
 use Rattle.answer_text.specs.declared.no_cause.NoCause.TheVariants.{Wall}
-use Rattle.answer_text.specs.declared.place.Place.TheVariants.{Flips, Base as AtBase, Walk}
+use Rattle.answer_text.specs.declared.place.Place.TheVariants.{Flips, Base as AtBase, Class, Quotient, Walk}
 use Rattle.answer_text.specs.declared.status.Status.{Status}
 use Rattle.answer_text.specs.Lines.{status_line}
 use Rattle.answer_text.specs.BaseTexts.{half_edges_text}
 use Rattle.command_words.specs.declared.command.Command.{Command}
 use Rattle.command_words.specs.declared.command.Command.TheVariants as commands
 use Rattle.veech_cli.specs.Endings.{or_standard, points_of, status_of_ending, text_of_ending}
-use Rattle.veech_cli.specs.Owed.{Owes, IsRegionAnswer, IsPathAnswer, AnswersAt, AnswersFromBase, Answers}
+use Rattle.veech_cli.specs.Owed.{Owes, IsRegionAnswer, IsPathAnswer, IsPlainAnswer, AnswersAt, AnswersFromBase, Answers}
 use Rattle.veech_cli.specs.Refusals.{status_of_base}
-use Rattle.veech_cli.specs.Surfaces.{IsTriangulatedFrom, IsRefusal, IsRefusalOf, RefusesRegion, RefusesWalk}
+use Rattle.veech_cli.specs.Surfaces.{IsTriangulatedFrom, IsRefusal, IsRefusalOf, RefusesRegion, RefusesWalk, RefusesPlain}
 use Rattle.veech_cli.proofs.Listed.{listed_point}
 use Rattle.veech_cli.proofs.Inputs.{points_within}
 use Rattle.veech_cli.proofs.Settling.{refuses_memory}
@@ -47,6 +47,15 @@ no_wall_refusal place = record { not_done = λ e. cc; not_words = λ e. cc; not_
 
 wide_walk_refusal : (formula : Formula) (place : ℕ) → IsRefusal (TooWide formula (Walk place))
 wide_walk_refusal formula place = record { not_done = λ e. cc; not_words = λ e. cc; not_write_fault = λ e. cc; point = tt }
+
+wide_class_refusal : (formula : Formula) (code : List ℤ) (wall : Option ℕ) → IsRefusal (TooWide formula (Class code wall))
+wide_class_refusal formula code wall = record { not_done = λ e. cc; not_words = λ e. cc; not_write_fault = λ e. cc; point = tt }
+
+wide_quotient_refusal : (formula : Formula) → IsRefusal (TooWide formula Quotient)
+wide_quotient_refusal formula = record { not_done = λ e. cc; not_words = λ e. cc; not_write_fault = λ e. cc; point = tt }
+
+limit_refusal : (limit : ℕ) → IsRefusal (LimitPassed limit)
+limit_refusal limit = record { not_done = λ e. cc; not_words = λ e. cc; not_write_fault = λ e. cc; point = tt }
 
 -- where the end of a walk has no code, that refuses the walk
 pub class_refused : (d : ℕ) (halves : List Half) (choices : List ℕ) (e : ℕ) (end : List Half) (n : ℕ) (status : Status) → e ≡ d → IsEnd d halves choices end → n ≡ length choices
@@ -116,17 +125,17 @@ module _ (input : List ℕ) (flips : ℕ) (bases : List Point) (tri : Triangulat
   base_field base (inr memory) = absurd memory
 
   -- a command that wants a base, and what it answers for one
-  module _ (command : Command) (P : ℕ → List Half → Status → List ℕ → Type 0)
+  module _ (command : Command) (P : ℕ → Point → List Half → Status → List ℕ → Type 0)
       (answers : (file : Content) (status : Status) (text : List ℕ) → AnswersFromBase flips (P file.field) file tri.halves status text → Answers command file tri.halves status text) where
     -- what is answered for an ending is owed to the input
     owed_then : (at : Point) (ending : Ending) → Ends at ending → (status : Status) (text : List ℕ) → AnswersAt (P made.0.field) at ending status text → Owes command input status text
     owed_then at ending ends status text answer = inr (made.0, tri.halves, made.1, made.4, answers made.0 status text (at, ending, ends_for at ending ends, answer))
 
     -- and so is what is answered for the base
-    pub owed_from : (base : Base) → IsRight tri Ends (Ok base) → (status : Status) (text : List ℕ) → P base.tri.field base.tri.halves status text → Owes command input status text
+    pub owed_from : (base : Base) → IsRight tri Ends (Ok base) → (status : Status) (text : List ℕ) → P base.tri.field base.point base.tri.halves status text → Owes command input status text
     owed_from base right status text answer =
         owed_then base.point (Ending.strict base.tri.halves base.flips) (ended base right) status text
-        (subst (λ d. P d base.tri.halves status text) (base_field base right ∙ made.3) answer)
+        (subst (λ d. P d base.point base.tri.halves status text) (base_field base right ∙ made.3) answer)
 
     -- and so is a fault of the base
     pub refused_from : (fault : BaseFault) → IsRight tri Ends (Err fault) → IsRefusalOf command input (status_of_base fault)
@@ -143,7 +152,7 @@ module _ (input : List ℕ) (flips : ℕ) (bases : List Point) (tri : Triangulat
   pub region_refused : (base : Base) → IsRight tri Ends (Ok base) → (status : Status) → RefusesRegion base.tri.field base.tri.halves status → IsRefusalOf (commands.Region flips) input status
   region_refused base right status (inl (formula, wide, is)) = (
     subst IsRefusal (sym is) (wide_base_refusal formula),
-    inl (owed_from (commands.Region flips) IsRegionAnswer (λ file status text answer. answer) base right status (status_line status) (inr (formula, wide, is, ap status_line is))),
+    inl (owed_from (commands.Region flips) (λ d at. IsRegionAnswer d) (λ file status text answer. answer) base right status (status_line status) (inr (formula, wide, is, ap status_line is))),
   )
   region_refused base right status (inr is) = refuses_memory (commands.Region flips) input status is
 
@@ -151,14 +160,36 @@ module _ (input : List ℕ) (flips : ℕ) (bases : List Point) (tri : Triangulat
   pub path_refused : (choices : List ℕ) (base : Base) → IsRight tri Ends (Ok base) → (status : Status) → RefusesWalk base.tri.field base.tri.halves choices status → IsRefusalOf (commands.Path flips choices) input status
   path_refused choices base right status (inl (place, none, is)) = (
     subst IsRefusal (sym is) (no_wall_refusal place),
-    inl (owed_from (commands.Path flips choices) (λ d. IsPathAnswer d choices) (λ file status text answer. answer) base right status (status_line status) (inr (inl (place, none, is, ap status_line is)))),
+    inl (owed_from (commands.Path flips choices) (λ d at. IsPathAnswer d choices) (λ file status text answer. answer) base right status (status_line status) (inr (inl (place, none, is, ap status_line is)))),
   )
   path_refused choices base right status (inr (inl (formula, place, wide, is))) = (
     subst IsRefusal (sym is) (wide_walk_refusal formula place),
-    inl (owed_from (commands.Path flips choices) (λ d. IsPathAnswer d choices) (λ file status text answer. answer) base right status (status_line status) (inr (inr (inl (formula, place, wide, is, ap status_line is))))),
+    inl (owed_from (commands.Path flips choices) (λ d at. IsPathAnswer d choices) (λ file status text answer. answer) base right status (status_line status) (inr (inr (inl (formula, place, wide, is, ap status_line is))))),
   )
   path_refused choices base right status (inr (inr (inl (end, ends, wide, is)))) = (
     subst IsRefusal (sym is) (wide_walk_refusal F1 (length choices)),
-    inl (owed_from (commands.Path flips choices) (λ d. IsPathAnswer d choices) (λ file status text answer. answer) base right status (status_line status) (inr (inr (inr (end, ends, wide, is, ap status_line is))))),
+    inl (owed_from (commands.Path flips choices) (λ d at. IsPathAnswer d choices) (λ file status text answer. answer) base right status (status_line status) (inr (inr (inr (end, ends, wide, is, ap status_line is))))),
   )
   path_refused choices base right status (inr (inr (inr is))) = refuses_memory (commands.Path flips choices) input status is
+
+  -- `plain`
+  pub plain_refused : (limit : ℕ) (base : Base) → IsRight tri Ends (Ok base) → (status : Status) → RefusesPlain base.tri.field base.tri.halves limit status → IsRefusalOf (commands.Plain flips limit) input status
+  plain_refused limit base right status (inl (inl (wide, is))) = (
+    subst IsRefusal (sym is) (wide_base_refusal F1),
+    inl (owed_from (commands.Plain flips limit) (λ d. IsPlainAnswer d limit) (λ file status text answer. answer) base right status (status_line status) (inr (inl (wide, is, ap status_line is)))),
+  )
+  plain_refused limit base right status (inl (inr is)) = refuses_memory (commands.Plain flips limit) input status is
+  plain_refused limit base right status (inr (inl (inl (formula, code, wall, known, wide, is)))) = (
+    subst IsRefusal (sym is) (wide_class_refusal formula code wall),
+    inl (owed_from (commands.Plain flips limit) (λ d. IsPlainAnswer d limit) (λ file status text answer. answer) base right status (status_line status) (inr (inr (inl (formula, code, wall, known, wide, is, ap status_line is))))),
+  )
+  plain_refused limit base right status (inr (inl (inr (inl (more, is))))) = (
+    subst IsRefusal (sym is) (limit_refusal limit),
+    inl (owed_from (commands.Plain flips limit) (λ d. IsPlainAnswer d limit) (λ file status text answer. answer) base right status (status_line status) (inr (inr (inr (inr (more, is, ap status_line is)))))),
+  )
+  plain_refused limit base right status (inr (inl (inr (inr is)))) = refuses_memory (commands.Plain flips limit) input status is
+  plain_refused limit base right status (inr (inr (inl (formula, wide, is)))) = (
+    subst IsRefusal (sym is) (wide_quotient_refusal formula),
+    inl (owed_from (commands.Plain flips limit) (λ d. IsPlainAnswer d limit) (λ file status text answer. answer) base right status (status_line status) (inr (inr (inr (inl (formula, wide, is, ap status_line is)))))),
+  )
+  plain_refused limit base right status (inr (inr (inr is))) = refuses_memory (commands.Plain flips limit) input status is

@@ -1,8 +1,9 @@
 -- An input is accepted as one file, or refused for one cause in one line, never both; and a command owes it one status.
 use Rattle.std.proofs.Common.{◌≡◌, ℕ, ◌≤◌, inl, inr, refl, List, [], ◌∷◌, length, ap, sym, ◌∙◌, subst, arith}
 use Rattle.std.specs.List.{AllByRecursion}
-use Rattle.std.specs.Prelude.{◌<◌, ◌⊎◌}
+use Rattle.std.specs.Prelude.{◌<◌, ◌⊎◌, ℤ, Some}
 use Rattle.std.proofs.lemmas.Bool.{cases_order}
+use Rattle.std.proofs.lemmas.Option.{slice_get-get_or}
 use Rattle.surface_text.specs.Spelling.{Content, text}
 use Rattle.surface_text.specs.Limits.{IsBasePoint}
 use Rattle.surface_text.specs.declared.file.Point.{Point}
@@ -23,15 +24,17 @@ use Rattle.tri_core.specs.Triangulation.{IsTriangulation}
 use Rattle.path_walk.specs.Walks.{IsWithoutWall, IsWideOnWalk}
 use Rattle.path_walk.proofs.CallerLemmas.{no_end_without_wall, no_end_wide, one_stop, wall_or_wide}
 use Rattle.answer_text.specs.declared.status.Status.{Status}
-use Rattle.answer_text.specs.declared.status.Status.TheVariants.{File, TooWide, No}
+use Rattle.answer_text.specs.declared.status.Status.TheVariants.{Done, File, TooWide, LimitPassed, No}
 use Rattle.answer_text.specs.declared.place.Place.TheVariants as places
 use Rattle.answer_text.specs.declared.no_cause.NoCause.TheVariants.{Wall}
 use Rattle.command_words.specs.declared.command.Command.{Command}
-use Rattle.command_words.specs.declared.command.Command.TheVariants.{Check, Base, Region, Path}
+use Rattle.command_words.specs.declared.command.Command.TheVariants.{Check, Base, Region, Path, Plain}
 use Rattle.veech_cli.specs.SurfaceFiles.{IsTextOf, IsAccepted, IsTriangulationOf, IsRefused, too_long, text_refused, not_glued}
 use Rattle.veech_cli.specs.Endings.{or_standard, points_of, status_of_ending}
-use Rattle.veech_cli.specs.Owed.{Answers, AnswersAt, AnswersFromBase, IsRegionAnswer, IsPathAnswer, Owes, IsOptional}
+use Rattle.veech_cli.specs.Owed.{Answers, AnswersAt, AnswersFromBase, IsRegionAnswer, IsPathAnswer, IsPlainAnswer, Owes, IsOptional}
+use Rattle.veech_cli.specs.Classes.{AreClassesWithin, MoreAreReachedCodes}
 use Rattle.veech_cli.proofs.Listed.{listed_valid}
+use Rattle.veech_cli.proofs.Distinct.{no_more}
 
 -- two files with one text
 one_text : (input : List ℕ) (file other : Content) → IsTextOf input file → IsTextOf input other → file ≡ other
@@ -119,12 +122,12 @@ module _ (d : ℕ) (field : IsFieldNumber d) (choices : List ℕ) (halves : List
       → IsOptional status ⊎ (IsWideOnWalk d halves choices F12 place × (status ≡ TooWide F12 (places.Walk place)))
   optional_or_stop status formula place wide is = elim (diagonal_or_not formula) [
     | inl e ↦ inr (subst (λ (f : Formula). IsWideOnWalk d halves choices f place) e wide, is ∙ ap (λ (f : Formula). TooWide f (places.Walk place)) e)
-    | inr ne ↦ inl (inr (formula, place, ne, is))
+    | inr ne ↦ inl (inr (inr (inr (formula, place, ne, is))))
   ]
 
   -- a wide frame of the end is one as well
   optional_end : (status : Status) → status ≡ TooWide F1 (places.Walk (length choices)) → IsOptional status
-  optional_end status is = inr (F1, length choices, (λ e. not_diagonal e), is)
+  optional_end status is = inr (inr (inr (F1, length choices, (λ e. not_diagonal e), is)))
     where
       not_diagonal : F1 ≡ F12 → ⊥
       not_diagonal e = cc
@@ -165,8 +168,41 @@ module _ (d : ℕ) (field : IsFieldNumber d) (choices : List ℕ) (halves : List
     ]
   ]
 
+-- where at most so many classes are reached there are no more
+not_more : (d : ℕ) (halves : List Half) (limit : ℕ) (codes : List (List ℤ)) → AreClassesWithin d halves limit codes → ¬ (MoreAreReachedCodes d halves limit)
+not_more d halves limit codes are more =
+    no_more more.codes codes more.once
+    (λ i code at. let held = (are.reached code).1 (more.reached i code at) in (held.0, slice_get-get_or codes held.0 code held.1 ∙ ap Some held.2))
+    (omega (arith, are.few, more.more))
+
+-- and so does `plain`: a wide formula that it may do without, the classes with Done, or that there are more of them
+abbrev IsKind : ℕ → ℕ → List Half → Status → Type 0
+IsKind d limit halves status =
+    IsOptional status
+    ⊎ ((codes : List (List ℤ)) × AreClassesWithin d halves limit codes × (status ≡ Done))
+    ⊎ (MoreAreReachedCodes d halves limit × (status ≡ LimitPassed limit))
+
+kind_of : (d limit : ℕ) (at : Point) (halves : List Half) (status : Status) (text : List ℕ) → IsPlainAnswer d limit at halves status text → IsKind d limit halves status
+kind_of d limit at halves status text (inl a) = inr (inl (a.0, a.2, a.4))
+kind_of d limit at halves status text (inr (inl a)) = inl (inl (F1, a.1))
+kind_of d limit at halves status text (inr (inr (inl a))) = inl (inr (inl (a.0, a.1, a.2, a.5)))
+kind_of d limit at halves status text (inr (inr (inr (inl a)))) = inl (inr (inr (inl (a.0, a.2))))
+kind_of d limit at halves status text (inr (inr (inr (inr a)))) = inr (inr (a.0, a.1))
+
+one_kind : (d limit : ℕ) (halves : List Half) (status other : Status) → IsKind d limit halves status → IsKind d limit halves other → AreAlike status other
+one_kind d limit halves status other (inl a) b = inr (inl a)
+one_kind d limit halves status other (inr a) (inl b) = inr (inr b)
+one_kind d limit halves status other (inr (inl a)) (inr (inl b)) = inl (a.2 ∙ sym b.2)
+one_kind d limit halves status other (inr (inl a)) (inr (inr b)) = absurd (not_more d halves limit a.0 a.1 b.0)
+one_kind d limit halves status other (inr (inr a)) (inr (inl b)) = absurd (not_more d halves limit b.0 b.1 a.0)
+one_kind d limit halves status other (inr (inr a)) (inr (inr b)) = inl (a.1 ∙ sym b.1)
+
+plain_once : (d limit : ℕ) (at : Point) (halves : List Half) → IsOnce (IsPlainAnswer d limit at) halves
+plain_once d limit at halves status other text line a b =
+    one_kind d limit halves status other (kind_of d limit at halves status text a) (kind_of d limit at halves other line b)
+
 -- for one ending a command that wants a base answers one status, where it does for the base
-ending_once : (P : List Half → Status → List ℕ → Type 0) (at : Point) (ending : Ending) → ((later : List Half) (n : ℕ) → ending ≡ Ending.strict later n → IsOnce P later)
+ending_once : (P : Point → List Half → Status → List ℕ → Type 0) (at : Point) (ending : Ending) → ((later : List Half) (n : ℕ) → ending ≡ Ending.strict later n → IsOnce (P at) later)
     → (status other : Status) (text line : List ℕ) → AnswersAt P at ending status text → AnswersAt P at ending other line → AreAlike status other
 ending_once P at (Ending.strict later n) once status other text line a b = once later n refl status other text line a b
 ending_once P at (Ending.not_strict h) once status other text line a b = inl (a.0 ∙ sym b.0)
@@ -180,12 +216,12 @@ module _ (input : List ℕ) (file : Content) (halves : List Half) (accepted : Is
   inside : AllByRecursion IsBasePoint (points_of file)
   inside = points_within file.bases accepted.text_of.limits.bases
 
-  base_once : (P : List Half → Status → List ℕ → Type 0) → ((later : List Half) → IsTriangulation file.field later → IsOnce P later)
+  base_once : (P : Point → List Half → Status → List ℕ → Type 0) → ((at : Point) (later : List Half) → IsTriangulation file.field later → IsOnce (P at) later)
       → (status other : Status) (text line : List ℕ) → AnswersFromBase flips P file halves status text → AnswersFromBase flips P file halves other line → AreAlike status other
   base_once P once status other text line a b =
       let same = one_listed file.field accepted.text_of.limits.field halves valid_file (points_of file) inside flips a.0 b.0 a.1 b.1 a.2 b.2 in
       ending_once P b.0 b.1
-      (λ later n is. once later (listed_valid file.field accepted.text_of.limits.field halves valid_file (points_of file) inside flips b.0 later n
+      (λ later n is. once b.0 later (listed_valid file.field accepted.text_of.limits.field halves valid_file (points_of file) inside flips b.0 later n
       (subst (λ (e : Ending). EndsListed file.field halves (points_of file) flips b.0 e) is b.2)))
       status other text line
       (subst (λ (e : Ending). AnswersAt P b.0 e status text) same.1 (subst (λ (p : Point). AnswersAt P p a.1 status text) same.0 a.3)) b.3
@@ -199,9 +235,11 @@ one_for (Base flips) input file halves accepted t status other text line a b =
     let same = one_listed file.field accepted.text_of.limits.field halves valid (points_of file) (points_within file.bases accepted.text_of.limits.bases) flips a.0 b.0 a.1 b.1 a.2 b.2 in
     inl (a.3 ∙ (λ i. status_of_ending (same.0 i) (same.1 i)) ∙ sym b.3)
 one_for (Region flips) input file halves accepted t status other text line a b =
-    base_once input file halves accepted t flips (IsRegionAnswer file.field) (λ later valid. region_once file.field later) status other text line a b
+    base_once input file halves accepted t flips (λ at. IsRegionAnswer file.field) (λ at later valid. region_once file.field later) status other text line a b
 one_for (Path flips choices) input file halves accepted t status other text line a b =
-    base_once input file halves accepted t flips (IsPathAnswer file.field choices) (λ later valid. path_once file.field accepted.text_of.limits.field choices later valid) status other text line a b
+    base_once input file halves accepted t flips (λ at. IsPathAnswer file.field choices) (λ at later valid. path_once file.field accepted.text_of.limits.field choices later valid) status other text line a b
+one_for (Plain flips limit) input file halves accepted t status other text line a b =
+    base_once input file halves accepted t flips (IsPlainAnswer file.field limit) (λ at later valid. plain_once file.field limit at later) status other text line a b
 
 pub one_answer : (command : Command) (input : List ℕ) (status other : Status) (text line : List ℕ) → Owes command input status text → Owes command input other line
     → (status ≡ other) ⊎ (IsOptional status ⊎ IsOptional other)

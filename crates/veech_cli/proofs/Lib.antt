@@ -1,5 +1,12 @@
 mod Listed
+mod Distinct
+mod Explored
+mod Ascending
+mod Grouped
+mod OneGraph
 mod Inputs
+mod Reported
 mod Settling
 mod Based
+mod Closed
 mod Numbers

@@ -1,6 +1,9 @@
 pub mod SurfaceFiles
 pub mod Endings
+pub mod Classes
+pub mod Groups
 pub mod Owed
+pub mod Headline
 pub mod Runs
 pub mod Refusals
 pub mod Surfaces

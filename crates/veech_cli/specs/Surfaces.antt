@@ -1,23 +1,28 @@
 -- What the steps from an input to a surface have made. They serve private clauses alone.
-use Rattle.std.specs.Prelude.{◌≡◌, ℕ, ◌⊎◌, List, length}
+use Rattle.std.specs.Prelude.{◌≡◌, ℕ, ℤ, ◌⊎◌, Option, None, List, length}
+use Rattle.std.specs.List.{Contains}
 use Rattle.surface_text.specs.Spelling.{Content}
 use Rattle.surface_text.specs.declared.file.Point.{Point}
 use Rattle.gluing.specs.Gluings.{Gluing, gluing_of}
 use Rattle.tri_core.specs.Triangulation.{Triangulation}
 use Rattle.answer_text.specs.declared.status.Status.{Status}
-use Rattle.answer_text.specs.declared.status.Status.TheVariants.{Done, File, Words, TooWide, WriteFault, Memory, No}
+use Rattle.answer_text.specs.declared.status.Status.TheVariants.{Done, File, Words, TooWide, LimitPassed, WriteFault, Memory, No}
 use Rattle.answer_text.specs.declared.no_cause.NoCause.TheVariants.{Wall}
 use Rattle.answer_text.specs.declared.place.Place.TheVariants as places
 use Rattle.quad_field.specs.declared.formula.Formula.{Formula}
 use Rattle.tri_core.specs.declared.half.Half.{Half}
 use Rattle.parabola_region.specs.Instances.{IsWideInstance}
 use Rattle.quad_field.specs.declared.formula.Formula.TheVariants.{F1}
+use Rattle.canon_code.specs.Canonical.{canonical}
 use Rattle.canon_code.specs.FrameWidth.{HasWideFrame}
+use Rattle.class_node.specs.Reached.{IsReachedCode}
 use Rattle.path_walk.specs.Walks.{IsEnd, IsWithoutWall, IsWideOnWalk}
 use Rattle.answer_text.specs.Statuses.{HasBasePoint}
 use Rattle.answer_text.specs.Lines.{status_line}
 use Rattle.command_words.specs.declared.command.Command.{Command}
 use Rattle.veech_cli.specs.SurfaceFiles.{IsAccepted, IsTriangulationOf, IsRefused}
+use Rattle.veech_cli.specs.Classes.{MoreAreReachedCodes, IsWideAtClass}
+use Rattle.veech_cli.specs.Groups.{IsWideInMatrices}
 use Rattle.veech_cli.specs.Owed.{Owes}
 
 -- the input is accepted as a file with this field and these base points, and its polygons are glued so
@@ -56,3 +61,32 @@ RefusesWalk d halves choices status =
     ⊎ ((formula : Formula) × (place : ℕ) × IsWideOnWalk d halves choices formula place × (status ≡ TooWide formula (places.Walk place)))
     ⊎ ((end : List Half) × IsEnd d halves choices end × HasWideFrame d end × (status ≡ TooWide F1 (places.Walk (length choices))))
     ⊎ (status ≡ Memory)
+
+-- the status says that F1 is wide at a start of the base, or that memory ran out
+abbrev pub RefusesRoot : ℕ → List Half → Status → Type 0
+RefusesRoot d halves status = (HasWideFrame d halves × (status ≡ TooWide F1 places.Base)) ⊎ (status ≡ Memory)
+
+-- the status says that a formula is wide at a reached class or at a wall of it, that more classes are reached than so many, or that memory ran out
+abbrev pub RefusesClasses : ℕ → List Half → ℕ → Status → Type 0
+RefusesClasses d halves limit status =
+    ((formula : Formula) × (code : List ℤ) × (wall : Option ℕ) × IsReachedCode d halves code × IsWideAtClass d code wall formula × (status ≡ TooWide formula (places.Class code wall)))
+    ⊎ (MoreAreReachedCodes d halves limit × (status ≡ LimitPassed limit))
+    ⊎ (status ≡ Memory)
+
+-- the status says that F1 is wide at a start of one of these classes, or that memory ran out
+abbrev pub RefusesTurns : ℕ → List (List ℤ) → Status → Type 0
+RefusesTurns d codes status =
+    ((code : List ℤ) × Contains codes code × HasWideFrame d (canonical d code) × (status ≡ TooWide F1 (places.Class code None))) ⊎ (status ≡ Memory)
+
+-- the status says that F1 is wide at a start of this class, or that memory ran out
+abbrev pub RefusesTurnsOf : ℕ → List ℤ → Status → Type 0
+RefusesTurnsOf d code status = (HasWideFrame d (canonical d code) × (status ≡ TooWide F1 (places.Class code None))) ⊎ (status ≡ Memory)
+
+-- the status says that a formula is wide in the matrices, or that memory ran out
+abbrev pub RefusesMatrices : ℕ → List Half → ℕ → Status → Type 0
+RefusesMatrices d halves limit status =
+    ((formula : Formula) × IsWideInMatrices d halves limit formula × (status ≡ TooWide formula places.Quotient)) ⊎ (status ≡ Memory)
+
+-- the status says one of these
+abbrev pub RefusesPlain : ℕ → List Half → ℕ → Status → Type 0
+RefusesPlain d halves limit status = RefusesRoot d halves status ⊎ RefusesClasses d halves limit status ⊎ RefusesMatrices d halves limit status

@@ -1,12 +1,17 @@
 //! The laws of inputs and of what they are owed, each the contract of a function that does nothing: an input is accepted as one file,
-//! or refused for one cause in one line, never both, and a command owes it one status.
+//! or refused for one cause in one line, never both, a command owes it one status, and one report, and a report that it owes is closed.
 
 ghost use Rattle.std.specs.Prelude.{◌≡◌, ◌⊎◌, ℕ, List};
 ghost use Rattle.surface_text.specs.Spelling.{Content};
 ghost use Rattle.answer_text.specs.declared.status.Status.{Status};
+ghost use Rattle.answer_text.specs.declared.status.Status.TheVariants.{Done};
 ghost use Rattle.command_words.specs.declared.command.Command.{Command};
+ghost use Rattle.command_words.specs.declared.command.Command.TheVariants.{Plain};
 ghost use Rattle.veech_cli.specs.SurfaceFiles.{IsAccepted, IsRefused};
 ghost use Rattle.veech_cli.specs.Owed.{Owes, IsOptional};
+ghost use Rattle.veech_cli.specs.Headline.{IsClosed};
+
+use returning::laws::{quotients_generate_the_returning_derivatives, quotients_have_determinant_one};
 
 /// An input is accepted as one file.
 pub fn one_file()
@@ -33,3 +38,17 @@ pub fn one_answer()
     ensures { (command : Command) (input : List ℕ) (status other : Status) (text line : List ℕ) → Owes command input status text → Owes command input other line
         → (status ≡ other) ⊎ IsOptional status ⊎ IsOptional other }
 {}
+
+/// The report of an input is one, by the number of flips alone: the limit changes nothing of it.
+pub fn one_report()
+    ensures { (flips limit other : ℕ) (input text line : List ℕ) → Owes (Plain flips limit) input Done text → Owes (Plain flips other) input Done line → text ≡ line }
+{}
+
+/// A report that is owed is closed: it has exactly the classes that crossings reach from the base, and matrices that generate exactly
+/// the derivatives of the paths that return to an image of the base.
+pub fn reports_are_closed()
+    ensures { (flips limit : ℕ) (input text : List ℕ) → Owes (Plain flips limit) input Done text → IsClosed input flips limit text }
+{
+    quotients_generate_the_returning_derivatives();
+    quotients_have_determinant_one();
+}

@@ -5,6 +5,7 @@ mod base;
 mod check;
 pub mod laws;
 mod path;
+mod plain;
 mod program;
 mod refusal;
 mod region;

@@ -14,7 +14,7 @@ use std::alloc::{AllocError, AllocFailed};
 use surface_text::TextFault;
 
 /// Why a run has no output: the status that it ends with, unless its line can't be written.
-#[derive(Debug, Drop)]
+#[derive(Drop)]
 pub(crate) struct Refusal {
     pub(crate) status: Status,
 }

@@ -2,7 +2,7 @@
 
 ghost use Rattle.std.specs.Prelude.{◌≡◌, ℕ, ◌≤◌, ◌⊎◌, List, [], length, IfSome, IfOk, OnOk, IfErr};
 ghost use Rattle.std.specs.Option.{option_map};
-ghost use Rattle.io_ends.specs.Ends.{Rose, given};
+ghost use Rattle.io_ends.specs.Ends.{Rose, given, taken_after};
 ghost use Rattle.surface_text.specs.Spelling.{Content};
 ghost use Rattle.answer_text.specs.declared.status.Status.{Status as Answer};
 ghost use Rattle.answer_text.specs.declared.status.Status.TheVariants.{Done, ReadFault};
@@ -11,12 +11,15 @@ ghost use Rattle.command_words.specs.declared.command.Command.{Command as Comman
 ghost use Rattle.command_words.specs.Commands.{Names, AreTaken};
 ghost use Rattle.veech_cli.specs.SurfaceFiles.{IsAccepted};
 ghost use Rattle.veech_cli.specs.Owed.{Owes, IsOptional};
+ghost use Rattle.veech_cli.specs.Headline.{IsClosed};
 ghost use Rattle.veech_cli.specs.Runs.{SettlesOn, Settles, Delivers, IsInput, SomeInput, IsReadWhole, SaysNothing};
 ghost use Rattle.veech_cli.specs.Surfaces.{IsRefusal, IsRefusalOf};
 
 use super::base::base;
 use super::check::check;
+use super::laws::reports_are_closed;
 use super::path::path;
+use super::plain::plain;
 use super::refusal::Refusal;
 use super::region::region;
 use super::{Status, WordList};
@@ -45,6 +48,13 @@ pub fn run_plain<S: Source, K: Sink>(
         × IsInput (S.left source.old) input
         × Settles words.now input status text
         × Delivers status text result (K.taken sink.old) (K.taken sink.new) }
+
+    // The headline: where `plain` answers Done, the input is a surface file with a base, and what was written is the report of exactly the
+    // classes that crossings reach from the base, and of matrices that generate exactly the derivatives of crossing paths that return to
+    // an image of the base.
+    ensures headline { (flips limit : ℕ) → Names words.now (CommandValue.Plain flips limit) → result ≡ Status.Done
+        → IfSome (S.left source.old) (λ input. (written : List ℕ) × IsClosed input flips limit written
+        × (K.taken sink.new ≡ taken_after (K.taken sink.old) written)) }
 
     // The other way round: where no end failed and the source tells its bytes, what the command owes the input is answered,
     // but for want of memory. A wide formula that the answer may do without needn't be answered, and may be where it is owed.
@@ -76,6 +86,7 @@ pub fn run_plain<S: Source, K: Sink>(
     ensures source_never_falls { S.faults source.old ≤ S.faults source.new }
     ensures sink_never_falls { K.faults sink.old ≤ K.faults sink.new }
 {
+    reports_are_closed();
     match read_command(alloc, words) {
         Ok(Some(command)) => answer(alloc, command, source, sink),
         Ok(None) => deliver(sink, Status::Words, b"fault words\n"),
@@ -150,6 +161,7 @@ fn output(alloc: Global, command: Command, input: &[u8]) -> Result<Vec<u8>, Refu
         Command::Base { flips } => base(alloc, input, flips),
         Command::Region { flips } => region(alloc, input, flips),
         Command::Path { flips, choices } => path(alloc, input, flips, choices.as_slice()),
+        Command::Plain { flips, limit } => plain(alloc, input, flips, limit.number()),
     }
 }
 

@@ -2,6 +2,8 @@
 
 ghost use Rattle.std.specs.Prelude.{◌≤◌};
 
+mod plain;
+
 use super::{WordList, run_plain, status_number};
 use io_ends::{MemSink, MemSource};
 use std::alloc::{AllocError, Global};

@@ -9,7 +9,7 @@ pub returns-in_err-base-clause-refused : goal.returns-in_err-base-clause-refused
 returns-in_err-base-clause-refused c =
     let p = err_from_is_err_and c.from_residual-in_err-base.result c.from_residual-in_err-base.ensures.1 in
     rw (p.1, p.2) (refused_from c.args.input.now c.args.flips c.in_ok-surface.surface.bases.items c.in_ok-surface.surface.tri
-    c.in_ok-surface.ensures.made (Path c.args.flips c.args.choices.now) (λ d. IsPathAnswer d c.args.choices.now) (λ file status text answer. answer) c.in_err-base.field-0.0 c.in_err-base.ensures)
+    c.in_ok-surface.ensures.made (Path c.args.flips c.args.choices.now) (λ d at. IsPathAnswer d c.args.choices.now) (λ file status text answer. answer) c.in_err-base.field-0.0 c.in_err-base.ensures)
 
 pub returns-in_err-text-clause-refused : goal.returns-in_err-text-clause-refused
 returns-in_err-text-clause-refused c =
@@ -20,5 +20,5 @@ returns-in_err-text-clause-refused c =
 pub returns-clause-owed : goal.returns-clause-owed
 returns-clause-owed c =
     owed_from c.args.input.now c.args.flips c.in_ok-surface.surface.bases.items c.in_ok-surface.surface.tri
-    c.in_ok-surface.ensures.made (Path c.args.flips c.args.choices.now) (λ d. IsPathAnswer d c.args.choices.now) (λ file status text answer. answer)
+    c.in_ok-surface.ensures.made (Path c.args.flips c.args.choices.now) (λ d at. IsPathAnswer d c.args.choices.now) (λ file status text answer. answer)
     c.in_ok-base.base c.in_ok-base.ensures Done c.in_ok-text.text.items c.in_ok-text.ensures.answer

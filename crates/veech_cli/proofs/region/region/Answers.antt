@@ -8,7 +8,7 @@ pub returns-in_err-base-clause-refused : goal.returns-in_err-base-clause-refused
 returns-in_err-base-clause-refused c =
     let p = err_from_is_err_and c.from_residual-in_err-base.result c.from_residual-in_err-base.ensures.1 in
     rw (p.1, p.2) (refused_from c.args.input.now c.args.flips c.in_ok-surface.surface.bases.items c.in_ok-surface.surface.tri
-    c.in_ok-surface.ensures.made (Region c.args.flips) IsRegionAnswer (λ file status text answer. answer) c.in_err-base.field-0.0 c.in_err-base.ensures)
+    c.in_ok-surface.ensures.made (Region c.args.flips) (λ d at. IsRegionAnswer d) (λ file status text answer. answer) c.in_err-base.field-0.0 c.in_err-base.ensures)
 
 pub returns-in_err-text-clause-refused : goal.returns-in_err-text-clause-refused
 returns-in_err-text-clause-refused c =

@@ -1,0 +1,139 @@
+-- A run of `plain` that is Done is closed.
+use Rattle.std.proofs.Common.{◌≡◌, ◌∙◌, ℕ, inl, inr, List, refl, sym, subst, Option, Some, None}
+use Rattle.std.specs.Prelude.{◌↔◌, ◌⊎◌, ℤ, IfSome}
+use Rattle.std.specs.List.{Contains}
+use Rattle.std.specs.Ordering.{int_cmp}
+use Rattle.std.specs.Cmp.Lexicographic.{slice_cmp}
+use Rattle.io_ends.specs.Ends.{taken_after}
+use Rattle.quad_field.specs.FieldNumber.{IsFieldNumber}
+use Rattle.plane.specs.Matrices.{FieldMatrix}
+use Rattle.surface_text.specs.Spelling.{Content}
+use Rattle.surface_text.specs.declared.file.Point.{Point}
+use Rattle.tri_core.specs.declared.half.Half.{Half}
+use Rattle.tri_core.specs.Triangulation.{IsTriangulation}
+use Rattle.delaunay_flip.specs.Bases.{Ending, EndsListed}
+use Rattle.terrain.specs.declared.graph.Lead.{Lead}
+use Rattle.terrain.specs.Graphs.{IsGraph}
+use Rattle.class_node.specs.Classes.{field_numbers, field_of, HasWalls}
+use Rattle.class_node.specs.Leads.{IsFrame, LeadsBy}
+use Rattle.class_node.specs.Reached.{IsRootOf}
+use Rattle.quotient.specs.Trees.{IsTree}
+use Rattle.quotient.specs.Quotients.{AreQuotients}
+use Rattle.returning.specs.Returning.{IsReturning, IsGenerated, HasDeterminantOne}
+use Rattle.returning.specs.Turns.{AreTurns}
+use Rattle.answer_text.specs.declared.status.Status.{Status}
+use Rattle.answer_text.specs.declared.status.Status.TheVariants.{Done, Words, ReadFault, WriteFault, Memory}
+use Rattle.command_words.specs.declared.command.Command.{Command}
+use Rattle.command_words.specs.declared.command.Command.TheVariants.{Plain}
+use Rattle.command_words.specs.Commands.{Names, AreTaken}
+use Rattle.command_words.proofs.CallerLemmas.{one_command}
+use Rattle.veech_cli.specs.SurfaceFiles.{IsAccepted, IsTriangulationOf}
+use Rattle.veech_cli.specs.Endings.{points_of}
+use Rattle.veech_cli.specs.Groups.{AreMatricesOf}
+use Rattle.veech_cli.specs.Owed.{Owes, Answers, AnswersAt, IsPlainAnswer}
+use Rattle.veech_cli.specs.Headline.{IsClosed}
+use Rattle.veech_cli.specs.Runs.{IsFailure, Settles, IsInput, Delivers}
+use Rattle.veech_cli.proofs.Reported.{done_text, base_valid, not_file, not_strict, not_ended, not_wide}
+use Rattle.veech_cli.proofs.Grouped.{root_is}
+
+-- what holds of each list of quotients of a base's graph
+abbrev pub OfQuotients : (ℕ → List Half → List FieldMatrix → Type 0) → Type 0
+OfQuotients P =
+    (t root : List ℤ) (base : List Half) (keys : List (List ℤ)) (rows : List (List (Lead FieldMatrix))) (place : ℕ) (first : FieldMatrix)
+    (turns : List (List FieldMatrix)) (tree quotients : List FieldMatrix)
+    → IsRootOf t root base → IsGraph (slice_cmp int_cmp) (HasWalls t) (LeadsBy t) root keys rows place → IsFrame (field_of t) base root first
+    → AreTurns (field_of t) keys turns → IsTree (field_of t) rows place first tree → AreQuotients (field_of t) tree rows turns quotients
+    → P (field_of t) base quotients
+
+-- the law that they generate exactly the returning derivatives, and the law that each has determinant one
+abbrev pub AreGenerating : Type 0
+AreGenerating = OfQuotients (λ d base quotients. (a : FieldMatrix) → IsGenerated d quotients a ↔ IsReturning d base a)
+
+abbrev pub AreOfDeterminantOne : Type 0
+AreOfDeterminantOne = OfQuotients (λ d base quotients. (a : FieldMatrix) → Contains quotients a → HasDeterminantOne d a)
+
+-- holds of its matrices
+of_matrices : (P : ℕ → List Half → List FieldMatrix → Type 0) → OfQuotients P → (d : ℕ) (base : List Half) (codes : List (List ℤ)) (matrices : List FieldMatrix)
+    → IsFieldNumber d → IsTriangulation d base → AreMatricesOf d base codes matrices → P d base matrices
+of_matrices P law d base codes matrices field valid own =
+    law (field_numbers d) own.graph.root base codes own.rows own.place own.first own.turns own.tree matrices
+    (root_is d base own.first codes own.rows own.place own.turns field valid own.graph) own.graph.graph own.graph.frame own.graph.turns_each own.is_tree own.quotients
+
+module _ (generating : AreGenerating) (determinants : AreOfDeterminantOne) (flips limit : ℕ) (input text : List ℕ) where
+  -- the answer at a strict ending
+  closed_at : (file : Content) (halves : List Half) → IsAccepted input file → IsTriangulationOf file halves → (at : Point) (base : List Half) (n : ℕ)
+      → EndsListed file.field halves (points_of file) flips at (Ending.strict base n) → IsPlainAnswer file.field limit at base Done text → IsClosed input flips limit text
+  closed_at file halves accepted t at base n ends answer =
+      let done = done_text file.field base limit at text answer in
+      let valid = base_valid input file halves accepted t flips at base n ends in
+      let field = accepted.text_of.limits.field in
+      record {
+        file = file;
+        accepted = accepted;
+        point = at;
+        base = base;
+        is_base = record { halves = halves; cut = t; made = n; strict = ends };
+        codes = done.0;
+        matrices = done.1;
+        report = done.4;
+        classes = done.2;
+        group = done.3;
+        generated = of_matrices (λ d base quotients. (a : FieldMatrix) → IsGenerated d quotients a ↔ IsReturning d base a) generating file.field base done.0 done.1 field valid done.3;
+        determinants = of_matrices (λ d base quotients. (a : FieldMatrix) → Contains quotients a → HasDeterminantOne d a) determinants file.field base done.0 done.1 field valid done.3;
+      }
+
+  closed_ending : (file : Content) (halves : List Half) → IsAccepted input file → IsTriangulationOf file halves → (at : Point) (ending : Ending)
+      → EndsListed file.field halves (points_of file) flips at ending → AnswersAt (IsPlainAnswer file.field limit) at ending Done text → IsClosed input flips limit text
+  closed_ending file halves accepted t at (Ending.strict base n) ends answer = closed_at file halves accepted t at base n ends answer
+  closed_ending file halves accepted t at (Ending.not_strict h) ends answer = absurd (not_strict h answer.0)
+  closed_ending file halves accepted t at Ending.flips_ended ends answer = absurd (not_ended at answer.0)
+  closed_ending file halves accepted t at (Ending.wide formula n h) ends answer = absurd (not_wide formula _ answer.0)
+
+  -- what is owed with Done is a closed report
+  pub closed : Owes (Plain flips limit) input Done text → IsClosed input flips limit text
+  closed (inl refused) = absurd (not_file refused.0 refused.1 refused.3)
+  closed (inr (file, halves, accepted, t, answer)) = closed_ending file halves accepted t answer.0 answer.1 answer.2 answer.3
+
+-- the law that it is
+abbrev pub AreClosed : Type 0
+AreClosed = (flips limit : ℕ) (input text : List ℕ) → Owes (Plain flips limit) input Done text → IsClosed input flips limit text
+
+done_no_failure : (status : Status) → status ≡ Done → ¬ (IsFailure status)
+done_no_failure status e (inl is) = not_read (sym is ∙ e)
+  where
+    not_read : ReadFault ≡ Done → ⊥
+    not_read e = cc
+done_no_failure status e (inr is) = not_memory (sym is ∙ e)
+  where
+    not_memory : Memory ≡ Done → ⊥
+    not_memory e = cc
+
+-- what is settled on with Done is what the command owes
+done_owed : (words : List (List ℕ)) (command : Command) (input : List ℕ) (status : Status) (text : List ℕ) → Names words command → status ≡ Done → Settles words input status text
+    → Owes command input Done text
+done_owed words command input status text names done (inl (found, other, owed)) =
+    subst (λ (s : Status). Owes command input s text) done (subst (λ (c : Command). Owes c input status text) (one_command words found command other names) owed)
+done_owed words command input status text names done (inr (inl failed)) = absurd (done_no_failure status done failed.0)
+done_owed words command input status text names done (inr (inr refused)) = absurd (not_words (sym refused.1 ∙ done))
+  where
+    not_words : Words ≡ Done → ⊥
+    not_words e = cc
+
+-- what is delivered with Done was settled on with it, and is taken whole
+done_taken : (status : Status) (text : List ℕ) (result : Status) (taken after : Option (List ℕ)) → result ≡ Done → Delivers status text result taken after
+    → (status ≡ Done) × (after ≡ taken_after taken text)
+done_taken status text result taken after done (inl d) = (sym d.0 ∙ done, d.1)
+done_taken status text result taken after done (inr d) = absurd (not_write (sym d.0 ∙ done))
+  where
+    not_write : WriteFault ≡ Done → ⊥
+    not_write e = cc
+
+-- so a run of `plain` that answers Done has written a closed report
+pub headline : AreClosed → (words : List (List ℕ)) (left taken after : Option (List ℕ)) (result : Status)
+    → (input : List ℕ) × (status : Status) × (text : List ℕ) × IsInput left input × Settles words input status text × Delivers status text result taken after
+    → (flips limit : ℕ) → Names words (Plain flips limit) → result ≡ Done
+    → IfSome left (λ input. (written : List ℕ) × IsClosed input flips limit written × (after ≡ taken_after taken written))
+headline law words None taken after result outcome flips limit names done = tt
+headline law words (Some bytes) taken after result (input, status, text, is, settled, d) flips limit names done =
+    let own = done_taken status text result taken after done d in
+    (text, subst (λ (b : List ℕ). IsClosed b flips limit text) is (law flips limit input text (done_owed words (Plain flips limit) input status text names own.0 settled)), own.1)

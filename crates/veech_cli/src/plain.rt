@@ -1,0 +1,209 @@
+//! The command `plain`.
+
+ghost use Rattle.std.specs.Prelude.{◌≡◌, ◌≤◌, length, map, IfOk, IfErr, ℕ, ℤ, List};
+ghost use Rattle.std.specs.Ordering.{int_cmp};
+ghost use Rattle.std.specs.Cmp.Lexicographic.{slice_cmp};
+ghost use Rattle.surface_text.specs.Limits.{IsBasePoint};
+ghost use Rattle.quad_field.specs.FieldNumber.{IsFieldNumber};
+ghost use Rattle.terrain.specs.Places.{IsAt};
+ghost use Rattle.terrain.specs.Graphs.{IsGraph};
+ghost use Rattle.canon_code.specs.Codes.{IsCode};
+ghost use Rattle.canon_code.specs.Canonical.{canonical};
+ghost use Rattle.class_node.specs.Classes.{field_numbers, IsClassOver, HasWalls};
+ghost use Rattle.class_node.specs.Leads.{IsFrame, AreFrames, LeadsBy};
+ghost use Rattle.returning.specs.Turns.{AreTurns};
+ghost use Rattle.answer_text.specs.declared.status.Status.TheVariants.{Done};
+ghost use Rattle.command_words.specs.declared.command.Command.TheVariants.{Plain};
+ghost use Rattle.veech_cli.specs.Classes.{AreClassesWithin};
+ghost use Rattle.veech_cli.specs.Groups.{IsGraphOf, AreMatricesOf};
+ghost use Rattle.veech_cli.specs.Owed.{Owes, IsPlainAnswer};
+ghost use Rattle.veech_cli.specs.Surfaces.{IsRefusalOf, RefusesRoot, RefusesClasses, RefusesTurns, RefusesTurnsOf, RefusesMatrices, RefusesPlain};
+
+use super::base::base_of_surface;
+use super::refusal::Refusal;
+use super::surface::surface_of;
+use answer_text::{Place, Status};
+use canon_code::Code;
+use class_node::ClassTerrain;
+use class_node::laws::{keys_of_a_graph_are_reached_codes, reached_keys_are_reached_codes};
+use delaunay_flip::Base;
+use explore_one::explore_one;
+use plane::Mat2;
+use quad_field::{Field, Formula};
+use quotient::{QuotientFault, quotient};
+use report_text::{Report, print};
+use std::alloc::Global;
+use terrain::{ExploreFault, Graph, Stop};
+
+/// What `plain` prints for an input, with at most so many flips and classes, or why there is nothing to print.
+pub(crate) fn plain(alloc: Global, input: &[u8], flips: u32, limit: u32) -> Result<Vec<u8>, Refusal>
+    requires input { length input.now ≤ 1048576 }
+    requires limit { limit ≤ 2048 }
+    ensures owed { IfOk result (λ text. Owes (Plain flips limit) input.now Done text.items) }
+    ensures refused { IfErr result (λ refusal. IsRefusalOf (Plain flips limit) input.now refusal.status) }
+{
+    let surface = surface_of(alloc, input)?;
+    let base = base_of_surface(alloc, &surface, flips)?;
+    let text = report_of(alloc, surface.field, &base, limit)?;
+    Ok(text)
+}
+
+/// The report of a base, as `plain` prints it.
+fn report_of(alloc: Global, f: Field, base: &Base, limit: u32) -> Result<Vec<u8>, Refusal>
+    requires field { f ≡ base.now.tri.field }
+    requires point { IsBasePoint base.now.point }
+    requires limit { limit ≤ 2048 }
+    ensures answer { IfOk result (λ text. IsPlainAnswer base.now.tri.field limit base.now.point base.now.tri.halves Done text.items) }
+    ensures refused { IfErr result (λ refusal. RefusesPlain base.now.tri.field base.now.tri.halves limit refusal.status) }
+{
+    let field = f.number();
+    let terrain = ClassTerrain::make(f);
+    let (root, frame) = root_of(alloc, &terrain, base)?;
+    let graph = graph_of(alloc, &terrain, base, &root, limit)?;
+    let turns = turns_of(alloc, &terrain, graph.keys.as_slice())?;
+    let mats = matrices_of(alloc, &f, base, &graph, &frame, turns.as_slice(), limit)?;
+    let report = Report {
+        field,
+        point: base.point,
+        codes: graph.keys,
+        mats,
+    };
+    let text = print(alloc, &report)?;
+    Ok(text)
+}
+
+/// The code of a base, and its frame.
+fn root_of(alloc: Global, terrain: &ClassTerrain, base: &Base) -> Result<(Code, Mat2), Refusal>
+    requires { terrain.now ≡ base.now.tri.field }
+    ensures code { IfOk result (λ r. IsCode base.now.tri.field base.now.tri.halves r.0) }
+    ensures own { IfOk result (λ r. ∥ IsClassOver base.now.tri.field r.0 ∥₁) }
+    ensures frame { IfOk result (λ r. IsFrame base.now.tri.field base.now.tri.halves r.0 r.1) }
+    ensures refused { IfErr result (λ refusal. RefusesRoot base.now.tri.field base.now.tri.halves refusal.status) }
+{
+    match terrain.root(alloc, base) {
+        Ok(root) => Ok(root),
+        Err(Stop::Fault(fault)) => Err(Refusal {
+            status: Status::TooWide {
+                formula: fault.formula,
+                place: Place::Base,
+            },
+        }),
+        Err(Stop::Memory) => Err(Refusal {
+            status: Status::Memory,
+        }),
+    }
+}
+
+/// The classes that are reached from a base with this code, with their leads.
+fn graph_of(
+    alloc: Global,
+    terrain: &ClassTerrain,
+    base: &Base,
+    root: &Code,
+    limit: u32,
+) -> Result<Graph<ClassTerrain>, Refusal>
+    requires field { terrain.now ≡ base.now.tri.field }
+    requires number { IsFieldNumber base.now.tri.field }
+    requires root { IsCode base.now.tri.field base.now.tri.halves root.now }
+    requires own { ∥ IsClassOver base.now.tri.field root.now ∥₁ }
+    requires limit { limit ≤ 2048 }
+    ensures graph { IfOk result (λ g. IsGraph (slice_cmp int_cmp) (HasWalls (field_numbers base.now.tri.field)) (LeadsBy (field_numbers base.now.tri.field)) root.now g.keys.items (map (λ v. v.items) g.leads.items) g.root) }
+    ensures own { IfOk result (λ g. (i : ℕ) (code : List ℤ) → IsAt g.keys.items i code → ∥ IsClassOver base.now.tri.field code ∥₁) }
+    ensures classes { IfOk result (λ g. AreClassesWithin base.now.tri.field base.now.tri.halves limit g.keys.items) }
+    ensures refused { IfErr result (λ refusal. RefusesClasses base.now.tri.field base.now.tri.halves limit refusal.status) }
+{
+    let _triangles = base.tri.triangles();
+    keys_of_a_graph_are_reached_codes();
+    reached_keys_are_reached_codes();
+    match explore_one(alloc, terrain, root, limit) {
+        Ok(graph) => Ok(graph),
+        Err(ExploreFault::Limit) => Err(Refusal {
+            status: Status::LimitPassed { limit },
+        }),
+        Err(ExploreFault::Fault { key, fault }) => Err(Refusal {
+            status: Status::TooWide {
+                formula: fault.formula,
+                place: Place::Class {
+                    code: key,
+                    wall: fault.wall,
+                },
+            },
+        }),
+        Err(ExploreFault::Memory) => Err(Refusal {
+            status: Status::Memory,
+        }),
+    }
+}
+
+/// The turns of classes, by classes.
+fn turns_of(
+    alloc: Global,
+    terrain: &ClassTerrain,
+    codes: &[Code],
+) -> Result<Vec<Vec<Mat2>>, Refusal>
+    requires own { (i : ℕ) (code : List ℤ) → IsAt codes.now i code → ∥ IsClassOver terrain.now code ∥₁ }
+    ensures turns { IfOk result (λ turns. AreTurns terrain.now codes.now (map (λ v. v.items) turns.items)) }
+    ensures refused { IfErr result (λ refusal. RefusesTurns terrain.now codes.now refusal.status) }
+{
+    let mut turns = Vec::with_capacity(alloc, codes.len())?;
+    for i in 0..codes.len() {
+        let turns_of_code = turns_of_class(alloc, terrain, &codes[i])?;
+        turns.push(turns_of_code)?;
+    }
+    Ok(turns)
+}
+
+/// The turns of a class.
+fn turns_of_class(alloc: Global, terrain: &ClassTerrain, code: &Code) -> Result<Vec<Mat2>, Refusal>
+    requires { ∥ IsClassOver terrain.now code.now ∥₁ }
+    ensures turns { IfOk result (λ turns. AreFrames terrain.now (canonical terrain.now code.now) code.now turns.items) }
+    ensures refused { IfErr result (λ refusal. RefusesTurnsOf terrain.now code.now refusal.status) }
+{
+    match terrain.turns(alloc, code) {
+        Ok(turns) => Ok(turns),
+        Err(Stop::Fault(fault)) => Err(Refusal {
+            status: Status::TooWide {
+                formula: fault.formula,
+                place: Place::Class {
+                    code: code.copy(alloc)?,
+                    wall: None,
+                },
+            },
+        }),
+        Err(Stop::Memory) => Err(Refusal {
+            status: Status::Memory,
+        }),
+    }
+}
+
+/// The matrices of a base with this graph, this frame and these turns of its classes.
+fn matrices_of(
+    alloc: Global,
+    f: &Field,
+    base: &Base,
+    graph: &Graph<ClassTerrain>,
+    frame: &Mat2,
+    turns: &[Vec<Mat2>],
+    limit: u32,
+) -> Result<Vec<Mat2>, Refusal>
+    requires field { f.now ≡ base.now.tri.field }
+    requires graph { IsGraphOf base.now.tri.field base.now.tri.halves frame.now graph.now.keys.items (map (λ v. v.items) graph.now.leads.items) graph.now.root (map (λ v. v.items) turns.now) }
+    requires few { length graph.now.keys.items ≤ limit }
+    ensures matrices { IfOk result (λ mats. AreMatricesOf base.now.tri.field base.now.tri.halves graph.now.keys.items mats.items) }
+    ensures refused { IfErr result (λ refusal. RefusesMatrices base.now.tri.field base.now.tri.halves limit refusal.status) }
+{
+    let _triangles = base.tri.triangles();
+    let _number = f.number();
+    match quotient(alloc, f, graph, frame, turns) {
+        Ok(group) => Ok(group.mats),
+        Err(QuotientFault::Wide(formula)) => Err(Refusal {
+            status: Status::TooWide {
+                formula,
+                place: Place::Quotient,
+            },
+        }),
+        Err(QuotientFault::Memory) => Err(Refusal {
+            status: Status::Memory,
+        }),
+    }
+}
