@@ -10,12 +10,12 @@ use quad_field::{Field, Formula, Quad, Sign};
 use std::alloc::{AllocError, Global};
 use std::cmp::Ordering;
 use std::test::Fail;
-use terrain::{Graph, Lead, Numbers, Stop, Stuck, Terrain};
+use terrain::{Graph, Lead, Numbers, Stop, Stuck, Terrain, TwoWalls};
 
-/// A terrain without keys of its own, whose graphs are made by hand.
-struct Nowhere;
+/// A terrain whose keys have two walls each, all of them stuck, so that its graphs are made by hand.
+struct Walled;
 
-impl Numbers for Nowhere {
+impl Numbers for Walled {
     ghost use Rattle.std.specs.Prelude.{[]};
 
     ghost numbers = { λ _. [] };
@@ -23,50 +23,50 @@ impl Numbers for Nowhere {
     ghost apart = { λ x y e i. x };
 }
 
-impl Terrain for Nowhere {
+impl Terrain for Walled {
     type Key = u32;
 
     type Link = Mat2;
 
     type Fault = Stuck;
 
-    type Walls = u32;
+    type Walls = TwoWalls;
 
-    ghost use Rattle.std.specs.Prelude.{◌≡◌};
+    ghost use Rattle.std.specs.Prelude.{◌≡◌, ⊤};
     ghost use Rattle.std.specs.Ordering.{int_cmp};
     ghost use Rattle.std.specs.Cmp.Lexicographic.{slice_cmp};
-    ghost use Rattle.terrain.specs.Rings.{ring_shard};
+    ghost use Rattle.terrain.specs.Rings.{HasTwo, ring_shard};
     ghost use Rattle.terrain.specs.RingLaws as laws;
 
-    ghost is_own = { λ t k. ⊥ };
+    ghost is_own = { λ t k. ⊤ };
 
-    ghost has_walls = { λ t k n. ⊥ };
+    ghost has_walls = { HasTwo };
 
-    ghost are_walls = { λ t k walls. ⊥ };
+    ghost are_walls = { λ t k walls. ⊤ };
 
     ghost leads = { λ t k w d g. ⊥ };
 
     ghost is_stuck = { λ t k f. ⊥ };
 
-    ghost is_stuck_at = { λ t k w f. ⊥ };
+    ghost is_stuck_at = { λ t k w f. ⊤ };
 
     ghost order = { slice_cmp int_cmp };
 
     ghost shard = { ring_shard };
 
-    ghost own_proofs_agree = { λ t k a b. absurd a };
+    ghost own_proofs_agree = { λ t k a b i. a };
 
-    ghost walls_proofs_agree = { λ t k n a b. absurd a };
+    ghost walls_proofs_agree = { laws.walls_proofs_agree };
 
     ghost leads_proofs_agree = { λ t k w d g a b. absurd a };
 
-    ghost walls_agree = { λ t k n m a b. absurd a };
+    ghost walls_agree = { laws.walls_agree };
 
-    ghost walls_few = { λ t k n a. absurd a };
+    ghost walls_few = { laws.walls_few };
 
     ghost leads_agree = { λ t k w d e g h a b. absurd a };
 
-    ghost leads_own = { λ t k n w d g a b c e. absurd a };
+    ghost leads_own = { λ t k n w d g a b c e. absurd e };
 
     ghost order_total = { laws.order_total };
 
@@ -75,25 +75,25 @@ impl Terrain for Nowhere {
     ghost shard_low = { laws.shard_low };
 
     fn walls(&self, _alloc: Global, _key: &u32) -> Result<u32, Stop<Stuck>> {
-        unreachable!()
+        Ok(2)
     }
 
     fn cross(&self, _alloc: Global, _key: &u32, _wall: u32) -> Result<(u32, Mat2), Stop<Stuck>> {
-        unreachable!()
+        Err(Stop::Fault(Stuck))
     }
 
-    fn find_walls(&self, _alloc: Global, _key: &u32) -> Result<(u32, u32), Stop<Stuck>> {
-        unreachable!()
+    fn find_walls(&self, _alloc: Global, _key: &u32) -> Result<(u32, TwoWalls), Stop<Stuck>> {
+        Ok((2, TwoWalls))
     }
 
     fn cross_found(
         &self,
         _alloc: Global,
         _key: &u32,
-        _walls: &u32,
+        _walls: &TwoWalls,
         _wall: u32,
     ) -> Result<(u32, Mat2), Stop<Stuck>> {
-        unreachable!()
+        Err(Stop::Fault(Stuck))
     }
 
     fn copy_key(&self, _alloc: Global, key: &u32) -> Result<u32, AllocError> {
@@ -182,7 +182,7 @@ fn one_place(
         Lead { to: 0, link: b },
         Lead { to: 0, link: c },
     ]?;
-    let graph: Graph<Nowhere> = Graph {
+    let graph: Graph<Walled> = Graph {
         keys: vec![in alloc; 0]?,
         leads: vec![in alloc; row]?,
         root: 0,
@@ -211,7 +211,7 @@ fn two_places(
     };
     let from_first = vec![in alloc; Lead { to: 1, link: a }, Lead { to: 0, link: b }]?;
     let from_second = vec![in alloc; Lead { to: 0, link: c }]?;
-    let graph: Graph<Nowhere> = Graph {
+    let graph: Graph<Walled> = Graph {
         keys: vec![in alloc; 0, 1]?,
         leads: vec![in alloc; from_first, from_second]?,
         root: 0,
