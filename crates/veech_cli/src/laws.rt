@@ -11,7 +11,9 @@ ghost use Rattle.veech_cli.specs.SurfaceFiles.{IsAccepted, IsRefused};
 ghost use Rattle.veech_cli.specs.Owed.{Owes, IsOptional};
 ghost use Rattle.veech_cli.specs.Headline.{IsClosed};
 
-use returning::laws::{quotients_generate_the_returning_derivatives, quotients_have_determinant_one};
+use returning::laws::{
+    quotients_generate_the_returning_derivatives, quotients_have_determinant_one,
+};
 
 /// An input is accepted as one file.
 pub fn one_file()

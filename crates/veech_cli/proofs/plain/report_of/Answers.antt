@@ -37,5 +37,11 @@ returns-in_err-mats-clause-refused c =
     rw (p.1, p.2) (inr (inr c.in_err-mats.ensures.refused))
 
 pub returns-clause-answer : goal.returns-clause-answer
-returns-clause-answer c = inl (c.in_ok-graph.graph.keys.items, c.in_ok-mats.mats.items, c.in_ok-graph.ensures.classes, c.in_ok-mats.ensures.matrices, refl,
-    c.in_ok-text.ensures ∙ ap (λ (d : ℕ). report_text d c.args.base.now.point c.in_ok-graph.graph.keys.items c.in_ok-mats.mats.items) (c.number-field.ensures.number ∙ c.requires.field))
+returns-clause-answer c = inl (
+  c.in_ok-graph.graph.keys.items,
+  c.in_ok-mats.mats.items,
+  c.in_ok-graph.ensures.classes,
+  c.in_ok-mats.ensures.matrices,
+  refl,
+  c.in_ok-text.ensures ∙ ap (λ (d : ℕ). report_text d c.args.base.now.point c.in_ok-graph.graph.keys.items c.in_ok-mats.mats.items) (c.number-field.ensures.number ∙ c.requires.field),
+)
