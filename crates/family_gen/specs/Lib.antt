@@ -1,0 +1,4 @@
+pub mod Tilings
+pub mod Octagons
+pub mod Families
+pub mod Tiles
