@@ -1,7 +1,7 @@
 -- Polygons that turn to the left at every corner, the first sides upper and the others lower.
 use Rattle.std.proofs.Common.{◌≡◌, ℕ, zero, suc, ◌+◌, ◌-◌, ◌%◌, ◌<◌, ◌≤◌, inl, inr, List, length, refl, sym, ap, subst, ◌∙◌, arith}
 use Rattle.std.proofs.lemmas.Bool.{cases_lt}
-use Rattle.std.proofs.Math.Nat.{mod_self}
+use Rattle.std.proofs.Math.Nat.{mod_self, mod-eq_of_lt}
 use Rattle.quad_field.specs.declared.quad.Quad.{Quad}
 use Rattle.quad_field.specs.FieldNumber.{IsFieldNumber}
 use Rattle.quad_field.specs.Quads.{quad_ops, IsPositive}
@@ -30,7 +30,7 @@ module _ (d : ℕ) (field : IsFieldNumber d) (sides : List (Vector Quad)) (h : �
 
   -- a side that isn't the last is followed by the next
   next_after : (i : ℕ) → i + 1 < length sides → side_after d sides i ≡ side_at d sides (i + 1)
-  next_after i less = let small : (i + 1) % length sides ≡ i + 1 = omega arith in ap (side_at d sides) small
+  next_after i less = ap (side_at d sides) (mod-eq_of_lt less)
 
   -- a lower side isn't upper
   not_upper : (i : ℕ) → h ≤ i → i < length sides → ¬ (IsUpper d (side_at d sides i))

@@ -1,5 +1,5 @@
 -- The squares of a tiling are glued to one surface.
-use Rattle.std.proofs.Common.{◌≡◌, ℕ, zero, suc, ◌+◌, ◌-◌, ◌*◌, ◌<◌, ◌≤◌, ◌⊎◌, inl, inr, List, [], ◌∷◌, ◌++◌, length, map, get_or, replicate, refl, sym, ap, subst, ◌∙◌, arith, IsTrue, Bool, ◌↔◌}
+use Rattle.std.proofs.Common.{◌≡◌, ℕ, zero, suc, ◌+◌, ◌-◌, ◌*◌, ◌<◌, ◌≤◌, ◌⊎◌, inl, inr, List, [], ◌∷◌, ◌++◌, length, map, get_or, replicate, refl, sym, ap, ap₂, subst, ◌∙◌, arith, IsTrue, Bool, ◌↔◌}
 use Rattle.std.specs.List.{AllByRecursion, Contains, range_with_len}
 use Rattle.std.proofs.lemmas.Bool.{cases_lt}
 use Rattle.std.proofs.lemmas.List.{length-append, length-replicate, get_or-replicate, get_or_append_left, get_or-append_right}
@@ -126,8 +126,8 @@ module _ (t : Tiling) (left down : ℕ → ℕ) (regular : IsRegular t left down
 
   two_sides : (k : ℕ) → k < length glues → ¬ (first_of (glue_at glues k) ≡ second_of (glue_at glues k))
   two_sides k h =
-      each_line (λ k g. ¬ (first_of g ≡ second_of g)) (λ i less e. let side = ap (λ (n : Name). n.1) e in omega arith)
-      (λ i less e. let side = ap (λ (n : Name). n.1) e in omega arith) k h
+      each_line (λ k g. ¬ (first_of g ≡ second_of g)) (λ i less e. let side : ◌≡◌ {A = ℕ} 1 3 = ap (λ (n : Name). n.1) e in omega arith)
+      (λ i less e. let side : ◌≡◌ {A = ℕ} 2 0 = ap (λ (n : Name). n.1) e in omega arith) k h
 
   opposite : (k : ℕ) → k < length glues → IsOpposite 2 squares (glue_at glues k)
   opposite k h =
@@ -138,7 +138,7 @@ module _ (t : Tiling) (left down : ℕ → ℕ) (regular : IsRegular t left down
           → vector_sum (quad_ops 2) (side_at 2 (vectors unit_square) e) (side_at 2 (vectors unit_square) f) ≡ no_vector 2
           → vector_sum (quad_ops 2) (side_at 2 (polygon_at squares p) e) (side_at 2 (polygon_at squares q) f) ≡ no_vector 2
       sum_of_sides e f p q h k unit =
-          (λ i. vector_sum (quad_ops 2) (side_at 2 (polygon_is p h i) e) (side_at 2 (polygon_is q k i) f)) ∙ unit
+          ap₂ (λ (s r : List (Vector Quad)). vector_sum (quad_ops 2) (side_at 2 s e) (side_at 2 r f)) (polygon_is p h) (polygon_is q k) ∙ unit
 
   sides_there : AllByRecursion (NamesSides squares) glues
   sides_there =
@@ -186,8 +186,8 @@ module _ (t : Tiling) (left down : ℕ → ℕ) (regular : IsRegular t left down
         let lesser : IsTrue (set from.0) = joined_to most from.0 (omega (arith, from.1)) (omega (arith, from.1)) in
         let inside : from.0 < t.squares = omega (arith, from.1) in
         elim from.2 [
-          | inl e ↦ subst (λ (n : ℕ). IsTrue (set n)) (e ∙ omega arith) (to_right from.0 inside lesser)
-          | inr e ↦ subst (λ (n : ℕ). IsTrue (set n)) (e ∙ omega arith) (to_upper from.0 inside lesser)
+          | inl e ↦ let next : t.right from.0 ≡ suc i = omega (arith, e) in subst (λ (n : ℕ). IsTrue (set n)) next (to_right from.0 inside lesser)
+          | inr e ↦ let next : t.up from.0 ≡ suc i = omega (arith, e) in subst (λ (n : ℕ). IsTrue (set n)) next (to_upper from.0 inside lesser)
         ]
 
   -- the squares make a surface

@@ -6,3 +6,4 @@ pub mod SquaresLeft
 pub mod GluedSquares
 pub mod Octagonal
 pub mod Surfaces
+pub mod MadeFiles

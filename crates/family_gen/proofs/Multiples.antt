@@ -1,5 +1,5 @@
 -- Multiples of polygons.
-use Rattle.std.proofs.Common.{◌≡◌, ℕ, zero, suc, ◌+◌, ◌*◌, ◌%◌, ◌<◌, ◌≤◌, ◌⊎◌, inl, inr, List, [], ◌∷◌, length, map, refl, sym, ap, subst, ◌∙◌, arith}
+use Rattle.std.proofs.Common.{◌≡◌, ℕ, zero, suc, ◌+◌, ◌*◌, ◌%◌, ◌<◌, ◌≤◌, ◌⊎◌, inl, inr, List, [], ◌∷◌, length, map, refl, sym, ap, ap₂, subst, ◌∙◌, arith}
 use Rattle.std.specs.Prelude.{ℤ, pos, ◌+ℤ◌, ◌*ℤ◌, neg_ℤ}
 use Rattle.quad_field.specs.Ring.{var, expr, whole_ops}
 use Rattle.rings.proofs.Solver.{identity}
@@ -45,21 +45,18 @@ scaled_opposite d k v i = (scaled_neg k v.0 i, scaled_neg k v.1 i)
 pub scaled_none : (d : ℕ) (k : ℤ) → scaled_vector k (no_vector d) ≡ no_vector d
 scaled_none d k i = (scaled_zero d k i, scaled_zero d k i)
 
+-- a multiple is a product by coordinates
+scaled_product : (d : ℕ) (k : ℤ) (v : Vector Quad) → scaled_vector k v ≡ ((quad_ops d).mul ((quad_ops d).int k) v.0, (quad_ops d).mul ((quad_ops d).int k) v.1)
+scaled_product d k v i = (scaled_is d k v.0 i, scaled_is d k v.1 i)
+
 -- the determinant of two multiples
 scaled_det : (d : ℕ) (k : ℤ) (u v : Vector Quad)
-    → let O = quad_ops d in det O (scaled_vector k u) (scaled_vector k v) ≡ O.mul (O.int k) (O.mul (O.int k) (det O u v))
+    → det (quad_ops d) (scaled_vector k u) (scaled_vector k v) ≡ (quad_ops d).mul ((quad_ops d).int k) ((quad_ops d).mul ((quad_ops d).int k) (det (quad_ops d) u v))
 scaled_det d k u v =
-    products
+    ap₂ (det (quad_ops d)) (scaled_product d k u) (scaled_product d k v)
     ∙ identity (quad_ops d) (quad_ring d) (u.0 ∷ u.1 ∷ v.0 ∷ v.1 ∷ (quad_ops d).int k ∷ [])
     (det expr (expr.mul (var 4) (var 0), expr.mul (var 4) (var 1)) (expr.mul (var 4) (var 2), expr.mul (var 4) (var 3)))
     (expr.mul (var 4) (expr.mul (var 4) (det expr (var 0, var 1) (var 2, var 3)))) tt
-  where
-    times : Quad → Quad
-    times x = (quad_ops d).mul ((quad_ops d).int k) x
-
-    products : det (quad_ops d) (scaled_vector k u) (scaled_vector k v) ≡ det (quad_ops d) (times u.0, times u.1) (times v.0, times v.1)
-    unfolding times
-    products i = det (quad_ops d) (scaled_is d k u.0 i, scaled_is d k u.1 i) (scaled_is d k v.0 i, scaled_is d k v.1 i)
 
 module _ (d m : ℕ) (field : IsFieldNumber d) (some : 0 < m) where
   -- positive multiples of positive numbers
@@ -100,7 +97,7 @@ module _ (d m : ℕ) (field : IsFieldNumber d) (some : 0 < m) (sides : List Vec2
       let positive = natural_positive d m some in
       let unit = round.lefts i less' in
       let equal : corner d (vectors (map (multiple m) sides)) i ≡ O.mul (O.int (pos m)) (O.mul (O.int (pos m)) (corner d (vectors sides) i)) =
-      (λ j. det O (multiple_side d m sides i j) (multiple_after i j))
+      ap₂ (det O) (multiple_side d m sides i) (multiple_after i)
       ∙ scaled_det d (pos m) (side_at d (vectors sides) i) (side_after d (vectors sides) i) in
       subst (IsPositive d) (sym equal)
       ((order_of d field).product (O.int (pos m)) (O.mul (O.int (pos m)) (corner d (vectors sides) i)) positive
@@ -113,10 +110,10 @@ module _ (d m : ℕ) (field : IsFieldNumber d) (some : 0 < m) (sides : List Vec2
     lefts = multiple_corner;
     uppers = λ i less. subst (IsUpper d) (sym (multiple_side d m sides i)) (scaled_upper d m field some (side_at d (vectors sides) i) (round.uppers i less));
     lowers = λ i from less.
-      let less' : i < length (vectors sides) = omega (arith, multiple_length m sides) in
-      subst (λ (v : Vector Quad). IsUpper d (opposite_vector (quad_ops d) v)) (sym (multiple_side d m sides i))
-      (subst (IsUpper d) (sym (scaled_opposite d (pos m) (side_at d (vectors sides) i)))
-      (scaled_upper d m field some (opposite_vector (quad_ops d) (side_at d (vectors sides) i)) (round.lowers i from less')));
+        let less' : i < length (vectors sides) = omega (arith, multiple_length m sides) in
+        subst (λ (v : Vector Quad). IsUpper d (opposite_vector (quad_ops d) v)) (sym (multiple_side d m sides i))
+        (subst (IsUpper d) (sym (scaled_opposite d (pos m) (side_at d (vectors sides) i)))
+        (scaled_upper d m field some (opposite_vector (quad_ops d) (side_at d (vectors sides) i)) (round.lowers i from less')));
     some = round.some;
     others = omega (arith, multiple_length m sides, round.others);
   }

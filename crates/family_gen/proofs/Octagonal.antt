@@ -1,6 +1,6 @@
 -- Octagons with opposite sides glued make a surface.
-use Rattle.std.proofs.Common.{◌≡◌, ℕ, zero, suc, ◌+◌, ◌*◌, ◌%◌, ◌<◌, ◌≤◌, inl, inr, List, [], ◌∷◌, length, map, refl, sym, ap, subst, ◌∙◌, arith}
-use Rattle.std.specs.Prelude.{ℤ, pos, negsuc, ◌*ℤ◌, unsigned_abs}
+use Rattle.std.proofs.Common.{◌≡◌, ℕ, zero, suc, ◌+◌, ◌*◌, ◌%◌, ◌<◌, ◌≤◌, inl, inr, List, [], ◌∷◌, length, map, refl, sym, ap, ap₂, subst, ◌∙◌, arith}
+use Rattle.std.specs.Prelude.{ℤ, pos, negsuc, ◌*ℤ◌, neg_ℤ, unsigned_abs}
 use Rattle.std.specs.List.{AllByRecursion, Contains}
 use Rattle.std.proofs.lemmas.Int.{ints}
 use Rattle.quad_field.specs.declared.quad.Quad.{Quad}
@@ -70,13 +70,17 @@ octagon_turns = record { closed = refl; lefts = lefts; uppers = uppers; lowers =
 abbrev IsTwo : Vec2 → Type 0
 IsTwo v = ((unsigned_abs v.s.a ≤ 2) × (unsigned_abs v.s.b ≤ 2)) × ((unsigned_abs v.t.a ≤ 2) × (unsigned_abs v.t.b ≤ 2))
 
+abs_opposite : (n : ℕ) → unsigned_abs (neg_ℤ (pos n)) ≡ n
+abs_opposite zero = refl
+abs_opposite (suc n) = refl
+
 little_part : (m : ℕ) (x : ℤ) → m ≤ 50 → unsigned_abs x ≤ 2 → IsLittle (x *ℤ pos m)
-little_part m (pos zero) h k = omega (arith, ints)
-little_part m (pos (suc zero)) h k = omega (arith, ints)
-little_part m (pos (suc (suc zero))) h k = omega (arith, ints)
+little_part m (pos zero) h k = omega arith
+little_part m (pos (suc zero)) h k = omega arith
+little_part m (pos (suc (suc zero))) h k = omega arith
 little_part m (pos (suc (suc (suc n)))) h k = absurd (omega arith)
-little_part m (negsuc zero) h k = omega (arith, ints)
-little_part m (negsuc (suc zero)) h k = omega (arith, ints)
+little_part m (negsuc zero) h k = omega (arith, abs_opposite (1 * m))
+little_part m (negsuc (suc zero)) h k = omega (arith, abs_opposite (2 * m))
 little_part m (negsuc (suc (suc n))) h k = absurd (omega arith)
 
 little_sides : (m : ℕ) (sides : List Vec2) → m ≤ 50 → AllByRecursion IsTwo sides → AllByRecursion IsLittleVector (map (multiple m) sides)
@@ -136,7 +140,7 @@ module _ (m : ℕ) (some : 0 < m) (most : m ≤ 50) where
   opposite_sides : (e : ℕ) → vector_sum (quad_ops 2) (side_at 2 (vectors octagon) e) (side_at 2 (vectors octagon) (e + 4)) ≡ no_vector 2
       → IsOpposite 2 polygons (opposite_glue e)
   opposite_sides e unit =
-      (λ i. vector_sum (quad_ops 2) (multiple_side 2 m octagon e i) (multiple_side 2 m octagon (e + 4) i))
+      ap₂ (vector_sum (quad_ops 2)) (multiple_side 2 m octagon e) (multiple_side 2 m octagon (e + 4))
       ∙ scaled_vectors 2 (pos m) (side_at 2 (vectors octagon) e) (side_at 2 (vectors octagon) (e + 4))
       ∙ ap (scaled_vector (pos m)) unit ∙ scaled_none 2 (pos m)
 
@@ -166,7 +170,7 @@ module _ (m : ℕ) (some : 0 < m) (most : m ≤ 50) where
   second_told (suc (suc (suc (suc k)))) h = absurd (omega arith)
 
   side_apart : (e : ℕ) → ¬ (first_of (opposite_glue e) ≡ second_of (opposite_glue e))
-  side_apart e same = let side = ap (λ (n : Name). n.1) same in omega arith
+  side_apart e same = let side : e ≡ e + 4 = ap (λ (n : Name). n.1) same in omega arith
 
   two_sides : (k : ℕ) → k < 4 → ¬ (first_of (glue_at glues k) ≡ second_of (glue_at glues k))
   two_sides zero h = side_apart 0

@@ -22,10 +22,7 @@ pub two : IsFieldNumber 2
 two = (omega arith, omega arith, free)
   where
     free : (k : ℕ) → (k * k) ∣ 2 → k ≡ 1
-    free zero h = absurd (no (eq-zero_of_zero-dvd h))
-      where
-        no : 2 ≡ 0 → ⊥
-        no e = omega arith
+    free zero h = let none : ◌≡◌ {A = ℕ} 2 0 = eq-zero_of_zero-dvd h in absurd (omega arith)
     free (suc zero) h = refl
     free (suc (suc k)) h = let small : suc (suc k) * suc (suc k) ≤ 2 = le_of_dvd (omega arith) h in absurd (large k small)
       where

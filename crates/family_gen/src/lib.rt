@@ -2,13 +2,13 @@
 //! Each is a file within the limits of the text, whose polygons make a surface.
 #![tactic(auto)]
 
-mod family;
+mod by_number;
 pub mod laws;
 mod octagon;
 mod squares;
 mod tiles;
 
-pub use family::family;
+pub use by_number::family;
 
 #[cfg(test)]
 mod tests;

@@ -1,6 +1,7 @@
 //! The surface file of a regular octagon.
 
-ghost use Rattle.std.specs.Prelude.{◌≡◌, ◌≤◌, ◌∷◌, [], map, IfOk};
+ghost use Rattle.std.specs.Prelude.{◌≡◌, ◌≤◌, pos, negsuc, map, IfOk};
+ghost use Rattle.quad_field.specs.Quads.{quad, scaled};
 ghost use Rattle.surface_text.specs.Spelling.{content};
 ghost use Rattle.family_gen.specs.Octagons.{octagon, multiple, opposite_glue, octagon_file};
 
@@ -9,32 +10,76 @@ use quad_field::Quad;
 use std::alloc::{AllocError, Global};
 use surface_text::{Glue, Polygon, SurfaceFile};
 
-/// The whole number a.
-const fn whole(a: i128) -> Quad {
-    Quad { a, b: 0 }
+/// 0 times m.
+fn none(m: u32) -> Quad
+    ensures { result ≡ scaled (pos m) (quad (pos 0) (pos 0)) }
+{
+    Quad { a: 0, b: 0 }
 }
 
-/// b times √2.
-const fn root(b: i128) -> Quad {
-    Quad { a: 0, b }
+/// 2 times m.
+fn long(m: u32) -> Quad
+    requires { m ≤ 50 }
+    ensures { result ≡ scaled (pos m) (quad (pos 2) (pos 0)) }
+{
+    Quad {
+        a: 2 * i128::from(m),
+        b: 0,
+    }
+}
+
+/// -2 times m.
+fn less_long(m: u32) -> Quad
+    requires { m ≤ 50 }
+    ensures { result ≡ scaled (pos m) (quad (negsuc 1) (pos 0)) }
+{
+    Quad {
+        a: -2 * i128::from(m),
+        b: 0,
+    }
+}
+
+/// √2 times m.
+fn slope(m: u32) -> Quad
+    requires { m ≤ 50 }
+    ensures { result ≡ scaled (pos m) (quad (pos 0) (pos 1)) }
+{
+    Quad {
+        a: 0,
+        b: i128::from(m),
+    }
+}
+
+/// -√2 times m.
+fn less_slope(m: u32) -> Quad
+    requires { m ≤ 50 }
+    ensures { result ≡ scaled (pos m) (quad (pos 0) (negsuc 0)) }
+{
+    Quad {
+        a: 0,
+        b: -i128::from(m),
+    }
 }
 
 /// The regular octagon of side 2m.
-fn octagon(alloc: Global, m: u32) -> Result<Polygon, AllocError>
+fn multiple_octagon(alloc: Global, m: u32) -> Result<Polygon, AllocError>
     requires { m ≤ 50 }
     ensures { IfOk result (λ polygon. polygon.sides.items ≡ map (multiple m) octagon) }
 {
-    let m = i128::from(m);
-    let vector = |s: Quad, t: Quad| Vec2 { s, t };
+    let zero = none(m);
+    let right = long(m);
+    let left = less_long(m);
+    let rise = slope(m);
+    let fall = less_slope(m);
     let sides = vec![in alloc;
-        vector(whole(2 * m), whole(0)),
-        vector(root(m), root(m)),
-        vector(whole(0), whole(2 * m)),
-        vector(root(-m), root(m)),
-        vector(whole(-2 * m), whole(0)),
-        vector(root(-m), root(-m)),
-        vector(whole(0), whole(-2 * m)),
-        vector(root(m), root(-m)),
+        Vec2 { s: right, t: zero },
+        Vec2 { s: rise, t: rise },
+        Vec2 { s: zero, t: right },
+        Vec2 { s: fall, t: rise },
+        Vec2 { s: left, t: zero },
+        Vec2 { s: fall, t: fall },
+        Vec2 { s: zero, t: left },
+        Vec2 { s: rise, t: fall },
     ]?;
     Ok(Polygon { sides })
 }
@@ -57,7 +102,8 @@ pub fn octagon_surface(alloc: Global, m: u32) -> Result<SurfaceFile, AllocError>
     requires { m ≤ 50 }
     ensures { IfOk result (λ file. content file ≡ octagon_file m) }
 {
-    let polygons = vec![in alloc; octagon(alloc, m)?]?;
+    let mut polygons = Vec::new(alloc);
+    polygons.push(multiple_octagon(alloc, m)?)?;
     let glues = vec![in alloc; opposite(0), opposite(1), opposite(2), opposite(3)]?;
     Ok(SurfaceFile {
         field: 2,

@@ -4,7 +4,7 @@ ghost use Rattle.std.specs.Prelude.{◌≡◌, ◌<◌, ◌++◌, map, replicate
 ghost use Rattle.std.specs.List.{range_with_len};
 ghost use Rattle.surface_text.specs.declared.file.Polygon.{Polygon as PolygonValue};
 ghost use Rattle.surface_text.specs.Spelling.{content};
-ghost use Rattle.family_gen.specs.Tilings.{unit_square, right_glue, upper_glue, tiling_file};
+ghost use Rattle.family_gen.specs.Tilings.{whole_vector, unit_square, right_glue, upper_glue, tiling_file};
 ghost use Rattle.family_gen.specs.Tiles.{tiling_of, IsSmall};
 
 use super::tiles::Tiles;
@@ -26,7 +26,9 @@ const UPPER: u32 = 2;
 const LEFT: u32 = 3;
 
 /// The vector with whole coordinates.
-const fn whole(s: i128, t: i128) -> Vec2 {
+fn whole(s: i128, t: i128) -> Vec2
+    ensures { result ≡ whole_vector s t }
+{
     Vec2 {
         s: Quad { a: s, b: 0 },
         t: Quad { a: t, b: 0 },
@@ -34,7 +36,7 @@ const fn whole(s: i128, t: i128) -> Vec2 {
 }
 
 /// The unit square.
-fn unit_square(alloc: Global) -> Result<Polygon, AllocError>
+fn square(alloc: Global) -> Result<Polygon, AllocError>
     ensures { IfOk result (λ polygon. polygon.sides.items ≡ unit_square) }
 {
     let sides = vec![in alloc; whole(1, 0), whole(0, 1), whole(-1, 0), whole(0, -1)]?;
@@ -46,8 +48,9 @@ fn unit_squares(alloc: Global, count: u32) -> Result<Vec<Polygon>, AllocError>
     ensures { IfOk result (λ polygons. map (λ (polygon : PolygonValue). polygon.sides.items) polygons.items ≡ replicate count unit_square) }
 {
     let mut polygons = Vec::new(alloc);
-    for _ in 0..count {
-        polygons.push(unit_square(alloc)?)?;
+    for _i in 0..count {
+        let polygon = square(alloc)?;
+        polygons.push(polygon)?;
     }
     Ok(polygons)
 }
