@@ -1,5 +1,5 @@
 -- Polygons that turn to the left at every corner, the first sides upper and the others lower.
-use Rattle.std.proofs.Common.{◌≡◌, ℕ, zero, suc, ◌+◌, ◌-◌, ◌%◌, ◌<◌, ◌≤◌, inl, inr, List, length, refl, sym, ap, subst, ◌∙◌, arith}
+use Rattle.std.proofs.Common.{◌≡◌, ℕ, ◌+◌, ◌-◌, ◌%◌, ◌<◌, ◌≤◌, inl, inr, List, length, sym, ap, subst, ◌∙◌, arith}
 use Rattle.std.proofs.lemmas.Bool.{cases_lt}
 use Rattle.std.proofs.Math.Nat.{mod_self, mod-eq_of_lt}
 use Rattle.quad_field.specs.declared.quad.Quad.{Quad}
@@ -10,7 +10,7 @@ use Rattle.rings.proofs.Ordered.{not_both_signs}
 use Rattle.rings.proofs.Turning.{upper_once, turning_some}
 use Rattle.plane.specs.Vectors.{Vector, opposite_vector}
 use Rattle.plane.specs.Halves.{IsUpper}
-use Rattle.gluing.specs.Polygons.{no_vector, side_at, side_after, corner, IsClosed, Rises, TurnsOnce, IsProper}
+use Rattle.gluing.specs.Polygons.{side_at, side_after, corner, IsClosed, Rises, IsProper}
 
 -- the sides sum to zero, every corner turns to the left, the first h sides are upper and the others lower
 pub record TurnsLeft (d : ℕ) (sides : List (Vector Quad)) (h : ℕ) : Type 0 where

@@ -1,5 +1,5 @@
 -- The squares of a tiling are glued to one surface.
-use Rattle.std.proofs.Common.{◌≡◌, ℕ, zero, suc, ◌+◌, ◌-◌, ◌*◌, ◌<◌, ◌≤◌, ◌⊎◌, inl, inr, List, [], ◌∷◌, ◌++◌, length, map, get_or, replicate, refl, sym, ap, ap₂, subst, ◌∙◌, arith, IsTrue, Bool, ◌↔◌}
+use Rattle.std.proofs.Common.{◌≡◌, ℕ, zero, suc, ◌+◌, ◌-◌, ◌<◌, ◌≤◌, inl, inr, List, [], ◌++◌, length, map, get_or, replicate, refl, sym, ap, ap₂, subst, ◌∙◌, arith, IsTrue, Bool, ◌↔◌}
 use Rattle.std.specs.List.{AllByRecursion, Contains, range_with_len}
 use Rattle.std.proofs.lemmas.Bool.{cases_lt}
 use Rattle.std.proofs.lemmas.List.{length-append, length-replicate, get_or-replicate, get_or_append_left, get_or-append_right}
@@ -13,7 +13,7 @@ use Rattle.plane.specs.Halves.{IsUpper}
 use Rattle.surface_text.specs.declared.file.Glue.{Glue}
 use Rattle.surface_text.specs.Limits.{IsPolygon, IsThere, NamesSides}
 use Rattle.gluing.specs.Polygons.{no_vector, vectors, polygon_at, side_at, corner, IsProper}
-use Rattle.gluing.specs.Gluings.{Name, first_of, second_of, names, no_glue, glue_at, IsOpposite, IsPaired, triangle_count, IsClosedUnderGlues, IsJoined, IsGluing, gluing_of}
+use Rattle.gluing.specs.Gluings.{Name, first_of, second_of, names, no_glue, glue_at, IsOpposite, IsPaired, triangle_count, IsClosedUnderGlues, IsGluing, gluing_of}
 use Rattle.family_gen.specs.Tilings.{Tiling, unit_square, right_glue, upper_glue, tiling_file}
 use Rattle.family_gen.proofs.Convex.{TurnsLeft, proper}
 use Rattle.family_gen.proofs.NamedSides.{all_at, all_from, first_named, second_named, never_twice}

@@ -10,7 +10,6 @@ use Rattle.plane.specs.declared.vec2.Vec2.{Vec2}
 use Rattle.surface_text.specs.declared.file.Point.{Point}
 use Rattle.surface_text.specs.declared.file.Glue.{Glue}
 use Rattle.surface_text.specs.declared.file.Polygon.{Polygon}
-use Rattle.surface_text.specs.Spelling.{Content}
 use Rattle.family_gen.specs.Tilings.{Tiling, whole_vector, unit_square, right_glue, upper_glue}
 use Rattle.family_gen.specs.Octagons.{octagon, multiple}
 use Rattle.family_gen.proofs.SmallNumbers.{small_file}

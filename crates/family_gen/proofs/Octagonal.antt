@@ -1,16 +1,15 @@
 -- Octagons with opposite sides glued make a surface.
-use Rattle.std.proofs.Common.{◌≡◌, ℕ, zero, suc, ◌+◌, ◌*◌, ◌%◌, ◌<◌, ◌≤◌, inl, inr, List, [], ◌∷◌, length, map, refl, sym, ap, ap₂, subst, ◌∙◌, arith}
+use Rattle.std.proofs.Common.{◌≡◌, ℕ, zero, suc, ◌+◌, ◌*◌, ◌%◌, ◌<◌, ◌≤◌, inl, inr, List, [], ◌∷◌, map, refl, ap, ap₂, ◌∙◌, arith}
 use Rattle.std.specs.Prelude.{ℤ, pos, negsuc, ◌*ℤ◌, neg_ℤ, unsigned_abs}
 use Rattle.std.specs.List.{AllByRecursion, Contains}
 use Rattle.std.proofs.lemmas.Int.{ints}
-use Rattle.quad_field.specs.declared.quad.Quad.{Quad}
 use Rattle.quad_field.specs.Quads.{quad, quad_ops, IsPositive}
 use Rattle.quad_field.proofs.CallerLemmas.{natural_positive}
 use Rattle.plane.specs.declared.vec2.Vec2.{Vec2}
-use Rattle.plane.specs.Vectors.{Vector, vector_sum, opposite_vector, scaled_vector}
+use Rattle.plane.specs.Vectors.{vector_sum, opposite_vector, scaled_vector}
 use Rattle.plane.specs.Halves.{IsUpper}
 use Rattle.surface_text.specs.declared.file.Glue.{Glue}
-use Rattle.surface_text.specs.Limits.{IsPolygon, IsThere, NamesSides}
+use Rattle.surface_text.specs.Limits.{NamesSides}
 use Rattle.gluing.specs.Polygons.{no_vector, vectors, polygon_at, side_at, corner, IsProper}
 use Rattle.gluing.specs.Gluings.{Name, first_of, second_of, names, glue_at, IsOpposite, IsPaired, IsJoined, IsGluing, gluing_of}
 use Rattle.family_gen.specs.Octagons.{octagon, multiple, opposite_glue, octagon_file}

@@ -1,7 +1,7 @@
 -- Files of small numbers: they are within the limits, and their texts are short.
-use Rattle.std.proofs.Common.{◌≡◌, ℕ, zero, suc, ◌+◌, ◌*◌, ◌^◌, ◌<◌, ◌≤◌, List, [], ◌∷◌, ◌++◌, length, map, refl, sym, ap, subst, ◌∙◌, arith}
+use Rattle.std.proofs.Common.{◌≡◌, ℕ, zero, suc, ◌+◌, ◌*◌, ◌<◌, ◌≤◌, List, [], ◌∷◌, ◌++◌, length, map, refl, arith}
 use Rattle.std.specs.Prelude.{ℤ, pos, negsuc, codes, unsigned_abs}
-use Rattle.std.specs.List.{AllByRecursion, flat_map}
+use Rattle.std.specs.List.{AllByRecursion}
 use Rattle.std.specs.Int.Digits.{digits_of}
 use Rattle.std.proofs.lemmas.Int.Digits.{length-digits_of-le}
 use Rattle.std.proofs.lemmas.List.{length-append, length-map}
@@ -14,7 +14,7 @@ use Rattle.plane.specs.declared.vec2.Vec2.{Vec2}
 use Rattle.plane.specs.Spelling.{natural_text, whole_text, root_text, quad_text, vector_text}
 use Rattle.surface_text.specs.declared.file.Glue.{Glue}
 use Rattle.surface_text.specs.Spelling.{Line, Content, glue_text, sides_text, line_text, lines_then, lines_of, text}
-use Rattle.surface_text.specs.Limits.{IsBoundedVector, IsPolygon, NamesSides, IsWithinLimits}
+use Rattle.surface_text.specs.Limits.{IsBoundedVector, IsPolygon}
 use Rattle.family_gen.specs.Tilings.{unit_square}
 
 -- 2 is square-free: its field is that of √2

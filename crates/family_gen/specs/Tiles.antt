@@ -1,5 +1,5 @@
 -- For private contracts alone: the tilings in memory.
-use Rattle.std.specs.Prelude.{ℕ, ◌<◌}
+use Rattle.std.specs.Prelude.{◌<◌}
 use Rattle.family_gen.specs.declared.tiles.Tiles.{Tiles}
 use Rattle.family_gen.specs.declared.tiles.Tiles.TheVariants.{Row, Ell, Staircase}
 use Rattle.family_gen.specs.Tilings.{Tiling, row, ell, staircase}
