@@ -5,8 +5,11 @@ use std::alloc::Global;
 use std::test::Fail;
 use surface_text::write;
 
-/// The text of the file of a number.
+/// The text of the file of a number, empty where it isn't below 200.
 fn text(alloc: Global, n: u32) -> Result<Vec<u8>, Fail> {
+    if n >= 200 {
+        return Ok(Vec::new(alloc));
+    }
     let file = family(alloc, n)?;
     Ok(write(alloc, &file)?)
 }
