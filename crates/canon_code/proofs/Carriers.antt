@@ -6,14 +6,14 @@ use Rattle.rings.specs.Ring.{Ops, IsRing, var, expr}
 use Rattle.rings.specs.Order.{IsOrdered}
 use Rattle.rings.proofs.Solver.{identity}
 use Rattle.rings.proofs.Factors.{cancel_positive}
-use Rattle.rings.specs.Vectors.{Vector, multiple_vector}
-use Rattle.rings.specs.Matrices.{Matrix, mapped}
+use Rattle.rings.specs.Vectors.{Vector}
+use Rattle.rings.specs.Matrices.{Matrix}
 use Rattle.quad_field.specs.declared.quad.Quad.{Quad}
 use Rattle.quad_field.specs.FieldNumber.{IsFieldNumber}
-use Rattle.quad_field.specs.Quads.{quad_ops, IsPositive, scaled}
+use Rattle.quad_field.specs.Quads.{quad_ops, scaled}
 use Rattle.quad_field.proofs.CallerLemmas.{quad_ring, order_of, scaled_is}
 use Rattle.plane.specs.Vectors.{det}
-use Rattle.plane.specs.Matrices.{FieldMatrix, IsInLowestTerms, scaled_matrix, HaveOneValue}
+use Rattle.plane.specs.Matrices.{FieldMatrix, IsInLowestTerms, HaveOneValue}
 use Rattle.plane.proofs.CallerLemmas.{one_value}
 use Rattle.tri_core.specs.declared.half.Half.{Half}
 use Rattle.tri_core.specs.HalfEdges.{vector_at, next_of}

@@ -11,6 +11,7 @@ use Rattle.std.proofs.lemmas.List.{append_assoc, append-nil, take-append-drop, d
 use Rattle.quad_field.specs.declared.quad.Quad.{Quad}
 use Rattle.plane.specs.Vectors.{Vector}
 use Rattle.canon_code.specs.Serials.{row, rows}
+use Rattle.canon_code.specs.Canonical.{number_at}
 use Rattle.canon_code.proofs.Least.{equal_from_tie}
 
 then_assoc : (o p q : Ordering) → ordering_then o (ordering_then p q) ≡ ordering_then (ordering_then o p) q
@@ -26,7 +27,7 @@ cmp_split (x ∷ a) [] c e same = absurd (omega (arith, same))
 cmp_split (x ∷ a) (y ∷ b) c e same =
     ap (ordering_then (int_cmp x y)) (cmp_split a b c e (omega (arith, same))) ∙ then_assoc (int_cmp x y) (slice_cmp int_cmp a b) (slice_cmp int_cmp c e)
 
-tie : (xs : List ℤ) → slice_cmp int_cmp xs xs ≡ Equal
+pub tie : (xs : List ℤ) → slice_cmp int_cmp xs xs ≡ Equal
 tie xs = tied_itself (lists_total int_cmp_total) xs
 
 -- lists with one front
@@ -103,3 +104,9 @@ module _ (w : ℕ → Vector Quad) (f : ℕ → ℕ) (n m : ℕ) (best : List �
 -- a triangle's numbers are eleven
 pub eleven : (n t : ℕ) (best : List ℤ) → length best ≡ 2 + 11 * n → t < n → length (take 11 (drop (2 + 11 * t) best)) ≡ 11
 eleven n t best long less = length-take-le 11 (drop (2 + 11 * t) best) (omega (arith, length-drop (2 + 11 * t) best, long, less))
+
+-- where no triangle is read yet
+pub begins_none : (w : ℕ → Vector Quad) (f : ℕ → ℕ) (n m : ℕ) (best : List ℤ) → 1 < length best → number_at best 0 ≡ pos n → number_at best 1 ≡ pos m → BeginsWith w f n m best 0
+begins_none w f n m [] long first second = absurd (omega (arith, long))
+begins_none w f n m (x ∷ []) long first second = absurd (omega (arith, long))
+begins_none w f n m (x ∷ y ∷ best) long first second = λ i. first i ∷ second i ∷ best

@@ -144,12 +144,10 @@ module _ {R : Type 0} (O : Ops R) (L : IsRing O) where
             ∙ ap (λ x. O.sub x (O.add a b)) k
             ∙ identity O L (a ∷ b ∷ []) (expr.sub (expr.int (pos 0)) (expr.add (var 0) (var 1))) (expr.neg (expr.add (var 0) (var 1))) tt
 
-    -- the third vector of a triangle is written by the opposite of the sum of the first two
-    pub written_third : (m : R) (e g u v w x y z : Vector R) → P (det O e g) → vector_sum O (vector_sum O u v) w ≡ (O.int (pos 0), O.int (pos 0))
-        → IsWritten O m e g u x → IsWritten O m e g v y → IsWritten O m e g w z → z ≡ opposite_vector O (vector_sum O x y)
-    written_third m e g u v w x y z p closed h k l =
-        written_once m e g w z (opposite_vector O (vector_sum O x y)) p l
-        (subst (λ (t : Vector R). IsWritten O m e g t (opposite_vector O (vector_sum O x y))) (sym (third_is u v w closed)) (first, second))
+    -- what the opposite of the sum of the first two writes is the third vector of a triangle
+    pub written_closed : (m : R) (e g u v w x y : Vector R) → vector_sum O (vector_sum O u v) w ≡ (O.int (pos 0), O.int (pos 0))
+        → IsWritten O m e g u x → IsWritten O m e g v y → IsWritten O m e g w (opposite_vector O (vector_sum O x y))
+    written_closed m e g u v w x y closed h k = subst (λ (t : Vector R). IsWritten O m e g t (opposite_vector O (vector_sum O x y))) (sym (third_is u v w closed)) (first, second)
       where
         sums : (a b c d : R) → O.mul (det O e g) a ≡ O.mul m c → O.mul (det O e g) b ≡ O.mul m d → O.mul (det O e g) (O.neg (O.add a b)) ≡ O.neg (O.add (O.mul m c) (O.mul m d))
         sums a b c d i j =
@@ -167,6 +165,11 @@ module _ {R : Type 0} (O : Ops R) (L : IsRing O) where
             sums x.1 y.1 _ _ h.1 k.1
             ∙ identity O L (u.0 ∷ u.1 ∷ v.0 ∷ v.1 ∷ e.0 ∷ e.1 ∷ m ∷ [])
             (expr.neg (expr.add (expr.mul (var 6) (det expr v2 e2)) (expr.mul (var 6) (det expr v2 g2)))) (expr.mul (var 6) (det expr v2 (opposite_vector expr (vector_sum expr e2 g2)))) tt
+
+    -- the third vector of a triangle is written by the opposite of the sum of the first two
+    pub written_third : (m : R) (e g u v w x y z : Vector R) → P (det O e g) → vector_sum O (vector_sum O u v) w ≡ (O.int (pos 0), O.int (pos 0))
+        → IsWritten O m e g u x → IsWritten O m e g v y → IsWritten O m e g w z → z ≡ opposite_vector O (vector_sum O x y)
+    written_third m e g u v w x y z p closed h k l = written_once m e g w z (opposite_vector O (vector_sum O x y)) p l (written_closed m e g u v w x y closed h k)
 
   -- det(p, q) of what is written: m²·det(u, v) = det(e, g)·det(x, y), where m·u = x.s·e + x.t·g and m·v = y.s·e + y.t·g
   pub written_det : (m : R) (e g u v x y : Vector R) → multiple_vector O m u ≡ mapped O (e.0, g.0, e.1, g.1) x → multiple_vector O m v ≡ mapped O (e.0, g.0, e.1, g.1) y

@@ -1,6 +1,7 @@
 -- One more start.
 use Rattle.std.proofs.Common.{◌≡◌, ℕ, ◌+◌, ◌*◌, ◌/◌, ◌<◌, List, [], ◌∷◌, ◌++◌, length, get_or, refl, sym, ap, ◌∙◌, subst, inl, inr, arith}
-use Rattle.std.specs.Prelude.{ℤ, pos}
+use Rattle.std.specs.Prelude.{ℤ, pos, ◌<ℤ◌}
+use Rattle.std.proofs.lemmas.Int.{ints}
 use mathlib.Core.Path.{subst₂}
 use Rattle.std.specs.Ordering.{int_cmp, ordering_reverse}
 use Rattle.std.specs.Cmp.Lexicographic.{slice_cmp}
@@ -172,3 +173,9 @@ best_long d halves bound code starts l =
 -- and begins with the number of triangles
 pub best_first : (d : ℕ) (halves : List Half) (bound : ℕ) (code : List ℤ) (starts : List ℕ) → IsLeastTo d halves bound code starts → number_at code 0 ≡ pos (length halves / 3)
 best_first d halves bound code starts l = let own : IsSerial d halves (get_or starts 0 0) code = l.each 0 l.some in ap (λ (c : List ℤ). number_at c 0) own.numbers
+
+-- its scale is above zero
+pub best_scale : (d : ℕ) (halves : List Half) (bound : ℕ) (code : List ℤ) (starts : List ℕ) → IsLeastTo d halves bound code starts → pos 0 <ℤ number_at code 1
+best_scale d halves bound code starts l =
+    let own : IsSerial d halves (get_or starts 0 0) code = l.each 0 l.some in
+    subst (λ z. pos 0 <ℤ z) (sym (ap (λ (c : List ℤ). number_at c 1) own.numbers)) (omega (arith, ints, own.least.0.0))

@@ -8,6 +8,7 @@ pub mod Searches
 pub mod Canonical
 pub mod NumberLists
 pub mod Scales
+pub mod Divisors
 pub mod Negated
 pub mod Numbers
 pub mod Results
@@ -23,6 +24,7 @@ pub mod Listings
 pub mod Refused
 pub mod Compared
 pub mod WholeFrames
+pub mod SmallFrames
 pub mod Merely
 pub mod Carriers
 pub mod CallerLemmas

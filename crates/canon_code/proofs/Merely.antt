@@ -1,9 +1,9 @@
 -- That half-edges are a triangulation has one proof.
-use Rattle.std.proofs.Common.{◌≡◌, ℕ, List, Bool, ap, inl, inr, arith}
+use Rattle.std.proofs.Common.{ℕ, List, Bool, ap, inl, inr, arith}
 use Rattle.std.proofs.Math.Dec.{T_prop}
-use Rattle.std.specs.Prelude.{ℤ, pos, ◌<ℤ◌, ◌≤ℤ◌, ◌⊎◌, ◌*ℤ◌}
+use Rattle.std.specs.Prelude.{ℤ, pos, ◌<ℤ◌, ◌≤ℤ◌, ◌*ℤ◌}
 use Rattle.std.proofs.lemmas.Int.{ints}
-use Rattle.std.specs.Coded.{Coded-set, coded_ℤ, coded_ℕ, coded_bool, le_prop, ×_prop}
+use Rattle.std.specs.Coded.{Coded-set, coded_ℤ, coded_ℕ, coded_bool, le_prop}
 use Rattle.quad_field.specs.declared.quad.Quad.{Quad}
 use Rattle.quad_field.specs.Quads.{IsPositive, IsZero}
 use Rattle.tri_core.specs.declared.half.Half.{Half}

@@ -25,7 +25,7 @@ use Rattle.rings.proofs.Factors.{cancel_positive}
 use Rattle.canon_code.proofs.Serials.{turn_at}
 
 -- a set of numbers with a and b that has differences has a common divisor of them
-common : (S : ℕ → Type 0) → ((a b : ℕ) → S a → S b → b ≤ a → S (a - b)) → (fuel a b : ℕ) → a + b ≤ fuel → S a → S b → (g : ℕ) × S g × (g ∣ a) × (g ∣ b)
+pub common : (S : ℕ → Type 0) → ((a b : ℕ) → S a → S b → b ≤ a → S (a - b)) → (fuel a b : ℕ) → a + b ≤ fuel → S a → S b → (g : ℕ) × S g × (g ∣ a) × (g ∣ b)
 common S less zero a b enough p q = let e : a ≡ b = omega arith in (a, p, dvd_refl a, subst (λ n. a ∣ n) e (dvd_refl a))
 common S less (suc fuel) a b enough p q =
     elim (cases_eq b 0) [

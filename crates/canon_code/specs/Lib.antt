@@ -14,3 +14,4 @@ pub mod TextReading
 pub mod Listing
 pub mod Tries
 pub mod WholeFrames
+pub mod Small

@@ -13,8 +13,8 @@ ghost use Rattle.canon_code.specs.declared.fault.CanonFault.TheVariants.{Wide};
 
 use super::coordinates::Coordinates;
 use super::numbering::Numbering;
-use super::serial::{Tried, order_of, serial_of, tried_at};
-use super::whole::given_up;
+use super::serial::{Tried, order_of, scale_number, serial_of, tried_at};
+use super::whole::{Told, told_of};
 use super::{CanonFault, Code};
 use plane::Mat2;
 use quad_field::Field;
@@ -71,16 +71,44 @@ fn better(f: &Field, tri: &Tri, tried: &Tried, h: u32, best: Best) -> Result<Bes
     let _count = tri.triangles();
     match order_of(best.serial.as_slice(), tri, tried) {
         Ordering::Less => only(f, tri, tried, h, best),
-        Ordering::Equal => {
-            let mut starts = best.starts;
-            starts.push(h)?;
-            Ok(Best {
-                serial: best.serial,
-                starts,
-            })
-        }
+        Ordering::Equal => with_start(best, h),
         Ordering::Greater => Ok(best),
     }
+}
+
+/// The best with one more start.
+fn with_start(best: Best, h: u32) -> Result<Best, AllocError>
+    ensures serial { IfOk result (λ b. b.serial.items ≡ best.serial.items) }
+    ensures starts { IfOk result (λ b. b.starts.items ≡ best.starts.items ++ h ∷ []) }
+{
+    let mut starts = best.starts;
+    starts.push(h)?;
+    Ok(Best {
+        serial: best.serial,
+        starts,
+    })
+}
+
+/// The better of the best and start h, whose serial is computed in the lists of an earlier start.
+fn tried_whole(
+    f: &Field,
+    tri: &Tri,
+    h: u32,
+    old: Tried,
+    best: Best,
+) -> Result<(Tried, Best), CanonFault>
+    requires field { f.now ≡ tri.now.field }
+    requires half { h < length tri.now.halves }
+    requires best { IsBestTo f.now tri.now.halves h best.serial.items best.starts.items }
+    ensures best { IfOk result (λ r. IsBestTo f.now tri.now.halves (h + 1) r.1.serial.items r.1.starts.items) }
+    ensures wide { IfErr result (λ fault. fault ≡ Wide → ¬ (FrameFits f.now tri.now.halves h)) }
+{
+    let tried = match tried_at(f, tri, h, old) {
+        Ok(tried) => tried,
+        Err(fault) => return Err(fault),
+    };
+    let best = better(f, tri, &tried, h, best)?;
+    Ok((tried, best))
 }
 
 /// The better of the best and start h, which is tried in the lists of an earlier start.
@@ -94,20 +122,19 @@ fn next(f: &Field, tri: &Tri, h: u32, old: Tried, best: Best) -> Result<(Tried, 
     let _number = f.number();
     let _count = tri.triangles();
     let coordinates = old.coordinates;
-    let (numbering, after) = given_up(f, tri, h, old.numbering, best.serial.as_slice())?;
+    let (numbering, answer) = told_of(f, tri, h, old.numbering, best.serial.as_slice())?;
     let old = Tried {
         numbering,
         coordinates,
     };
-    if after {
-        return Ok((old, best));
+    match answer {
+        Told::After => Ok((old, best)),
+        Told::Same => {
+            let best = with_start(best, h)?;
+            Ok((old, best))
+        }
+        Told::Open => tried_whole(f, tri, h, old, best),
     }
-    let tried = match tried_at(f, tri, h, old) {
-        Ok(tried) => tried,
-        Err(fault) => return Err(fault),
-    };
-    let best = better(f, tri, &tried, h, best)?;
-    Ok((tried, best))
 }
 
 /// The least serial over all starts, with its starts. The lists of the best start and of the one that is tried are kept.
@@ -155,14 +182,6 @@ fn frame_at(tri: &Tri, h: u32, scale: i128) -> Mat2
     let e = tri.half(h).vec;
     let g = tri.half(Tri::next(h)).vec;
     Mat2::reduced([e.s, g.s, e.t, g.t], scale)
-}
-
-/// The number at place 1: the scale.
-fn scale_number(numbers: &[i128]) -> i128
-    requires { 1 < length numbers.now }
-    ensures { result ≡ number_at numbers.now 1 }
-{
-    numbers[1]
 }
 
 /// The frame of a start of the least serial: it takes the canonical triangulation to `tri`, half-edge 0 to the start.

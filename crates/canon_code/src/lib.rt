@@ -11,6 +11,7 @@ mod number_list;
 mod numbering;
 mod reader;
 mod serial;
+mod small;
 mod text;
 mod triangulation;
 mod whole;

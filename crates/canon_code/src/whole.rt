@@ -1,38 +1,181 @@
-//! Starts in whose frame the vectors are whole: given up without all of their coordinates.
+//! What is told of a start without all of its coordinates: that it is after the best, by its scale or by the first number that differs, or that it is
+//! another start of the best.
 
-ghost use Rattle.std.specs.Prelude.{◌≡◌, ℕ, ℤ, pos, ◌+◌, ◌*◌, ◌/◌, ◌<◌, ◌<ℤ◌, List, length, IsTrue, IfOk, IfSome};
+ghost use Rattle.std.specs.Prelude.{◌≡◌, ℕ, pos, ◌+◌, ◌*◌, ◌/◌, ◌<◌, ◌<ℤ◌, ◌*ℤ◌, List, length, unsigned_abs, IsTrue, IfOk, IfSome, IfNone};
+ghost use Prim.Native.Nat.{◌∣◌};
 ghost use Rattle.quad_field.specs.Width.{FitsI128, PartsFit};
+ghost use Rattle.quad_field.specs.Content.{DividesParts};
+ghost use Rattle.plane.specs.Vectors.{vector};
+ghost use Rattle.tri_core.specs.declared.half.Half.{Half};
 ghost use Rattle.tri_core.specs.Triangulation.{IsTriangulation};
-ghost use Rattle.canon_code.specs.Serials.{IsSerial};
-ghost use Rattle.canon_code.specs.Codes.{IsBefore};
 ghost use Rattle.canon_code.specs.Canonical.{number_at};
 ghost use Rattle.canon_code.specs.Numbered.{IsNumberedBy};
 ghost use Rattle.canon_code.specs.Listed.{twin_by};
-ghost use Rattle.canon_code.specs.WholeFrames.{IsFrameOf, IsWholeAt, IsWholeRow};
+ghost use Rattle.canon_code.specs.Small.{IsSmallFrame};
+ghost use Rattle.canon_code.specs.WholeFrames.{IsFrameOf, IsDivisorOf, IsScaledBy, IsWhole, IsNotWhole, IsWholeAt, IsNotWholeAt, IsWholeRow, HasNoWhole, IsTold};
 
-use super::coordinates::{Frame, frame_of, whole_pair};
+use super::coordinates::{Frame, frame_of, numbers_of, whole_number, whole_pair};
 use super::numbering::{Numbering, number_from};
-use super::serial::{row_in, twin_of};
-use quad_field::{Field, Quad};
+use super::serial::{row_in, scale_number, twin_of};
+use super::small::{SmallFrame, small_numbers, small_of, whole_both};
+use plane::Vec2;
+use quad_field::{Field, Quad, TooWide, content};
 use std::alloc::AllocError;
 use std::cmp::Ordering;
 use tri_core::Tri;
 
-/// The coordinates of the half-edge of new number k, none where they aren't whole or a step is wide.
+/// What is told of a start.
+#[derive(Clone, Copy)]
+pub enum Told {
+    /// It is after the best.
+    After,
+    /// It is another start of the best.
+    Same,
+    /// Nothing.
+    Open,
+}
+
+/// A start whose scale isn't below the best one's: its frame, the norm over the best scale, and both in 64 bits where that fits.
+#[derive(Clone, Copy)]
+pub struct Scaled {
+    pub h: u32,
+    pub frame: Frame,
+    pub divisor: i128,
+    pub small: Option<SmallFrame>,
+}
+
+/// The frame of two vectors with a norm above zero, none where a step is wide.
+fn positive_frame(f: &Field, tri: &Tri, h: u32) -> Option<Frame>
+    requires field { f.now ≡ tri.now.field }
+    requires half { h < length tri.now.halves }
+    ensures frame { IfSome result (λ x. IsFrameOf f.now tri.now.halves h x) }
+    ensures positive { IfSome result (λ x. pos 0 <ℤ x.norm) }
+{
+    let _count = tri.triangles();
+    let e = tri.half(h).vec;
+    let g = tri.half(Tri::next(h)).vec;
+    let Ok(frame) = frame_of(f, &e, &g) else {
+        return None;
+    };
+    if frame.norm > 0 {
+        return Some(frame);
+    }
+    if frame.norm == 0 {
+        return None;
+    }
+    turned(f, frame)
+}
+
+/// The frame with the conjugate and the norm negated, none where a step is wide.
+fn turned(f: &Field, frame: Frame) -> Option<Frame>
+    requires { frame.norm <ℤ pos 0 }
+    ensures frame { IfSome result (λ x. (halves : List Half) (h : ℕ) → IsFrameOf f.now halves h frame → IsFrameOf f.now halves h x) }
+    ensures positive { IfSome result (λ x. pos 0 <ℤ x.norm) }
+{
+    let norm = frame.norm.checked_neg()?;
+    let Ok(conjugate) = f.neg(frame.conjugate) else {
+        return None;
+    };
+    Some(Frame {
+        e: frame.e,
+        g: frame.g,
+        conjugate,
+        norm,
+    })
+}
+
+/// n / g, where g divides n.
+fn quotient(n: i128, g: i128) -> i128
+    requires positive { pos 0 <ℤ g }
+    requires divides { unsigned_abs g ∣ unsigned_abs n }
+    ensures { n ≡ result *ℤ g }
+{
+    n / g
+}
+
+/// Whether g divides both parts.
+fn divides(g: i128, x: Quad) -> bool
+    requires { pos 0 <ℤ g }
+    ensures { IsTrue result → DividesParts (unsigned_abs g) x }
+{
+    match whole_number(x, g) {
+        Some(_multiple) => true,
+        None => false,
+    }
+}
+
+/// The greatest common divisor of g and the parts of two numbers.
+fn common(g: i128, x: Quad, y: Quad) -> i128
+    requires { pos 0 <ℤ g }
+    ensures positive { pos 0 <ℤ result }
+    ensures divides { unsigned_abs result ∣ unsigned_abs g }
+    ensures within { (k n : ℕ) → k ∣ (n * unsigned_abs g) → k ∣ (n * unsigned_abs x.a) → k ∣ (n * unsigned_abs x.b) → k ∣ (n * unsigned_abs y.a) → k ∣ (n * unsigned_abs y.b)
+        → k ∣ (n * unsigned_abs result) }
+{
+    if divides(g, x) && divides(g, y) {
+        return g;
+    }
+    content(&[Quad { a: g, b: 0 }, x, y]) as i128
+}
+
+/// A divisor of the norm: all that the norm and the numbers of the first half-edges have in common, up to where the scale isn't below the best one.
+fn divisor_of(f: &Field, tri: &Tri, h: u32, frame: &Frame, scale: i128) -> i128
+    requires field { f.now ≡ tri.now.field }
+    requires half { h < length tri.now.halves }
+    requires frame { IsFrameOf f.now tri.now.halves h frame.now }
+    requires positive { pos 0 <ℤ frame.now.norm }
+    ensures { IsDivisorOf f.now tri.now.halves h frame.now.norm result }
+{
+    let _number = f.number();
+    let count = 3 * tri.triangles();
+    let mut divisor = frame.norm;
+    for k in 0..count {
+        if quotient(frame.norm, divisor) >= scale {
+            return divisor;
+        }
+        let Ok((x, y)) = numbers_of(f, frame, &tri.half(k).vec) else {
+            return divisor;
+        };
+        divisor = common(divisor, x, y);
+    }
+    divisor
+}
+
+/// The coordinates of a vector over the best scale, none where they aren't whole, by arithmetic of 64 bits where that fits.
+fn pair_over(f: &Field, start: &Scaled, v: &Vec2) -> Result<Option<(Quad, Quad)>, TooWide>
+    requires positive { pos 0 <ℤ start.now.divisor }
+    requires small { IfSome start.now.small (IsSmallFrame f.now start.now.frame start.now.divisor) }
+    ensures whole { IfOk result (λ o. IfSome o (λ w. IsWhole f.now start.now.frame start.now.divisor (vector v.now) (w.0, w.1))) }
+    ensures none { IfOk result (λ o. IfNone o (IsNotWhole f.now start.now.frame start.now.divisor (vector v.now))) }
+    ensures fits { IfOk result (λ o. IfSome o (λ w. PartsFit w.0 × PartsFit w.1)) }
+{
+    match start.small {
+        Some(small) => match small_numbers(f.number(), &small, v) {
+            Some((s, t)) => Ok(whole_both(s, t, small.divisor)),
+            None => whole_pair(f, &start.frame, start.divisor, v),
+        },
+        None => whole_pair(f, &start.frame, start.divisor, v),
+    }
+}
+
+/// The coordinates of the half-edge of new number k over the best scale, none where they aren't whole.
 fn whole_at(
     f: &Field,
     tri: &Tri,
-    frame: &Frame,
+    start: &Scaled,
     numbering: &Numbering,
     k: u32,
-) -> Option<(Quad, Quad)>
-    requires norm { pos 0 <ℤ frame.now.norm }
+) -> Result<Option<(Quad, Quad)>, TooWide>
+    requires positive { pos 0 <ℤ start.now.divisor }
+    requires small { IfSome start.now.small (IsSmallFrame f.now start.now.frame start.now.divisor) }
     requires numbering { (h : ℕ) × IsNumberedBy tri.now.halves h numbering.now.places.items numbering.now.numbers.items }
     requires half { k < length tri.now.halves }
-    ensures whole { IfSome result (λ w. IsWholeAt f.now tri.now.halves frame.now numbering.now.places.items k (w.0, w.1)) }
-    ensures fits { IfSome result (λ w. PartsFit w.0 × PartsFit w.1) }
+    ensures whole { IfOk result (λ o. IfSome o (λ w. IsWholeAt f.now tri.now.halves start.now numbering.now.places.items k (w.0, w.1))) }
+    ensures none { IfOk result (λ o. IfNone o (IsNotWholeAt f.now tri.now.halves start.now numbering.now.places.items k)) }
+    ensures fits { IfOk result (λ o. IfSome o (λ w. PartsFit w.0 × PartsFit w.1)) }
 {
-    whole_pair(f, frame, &tri.half(numbering.places[k as usize]).vec)
+    let v = tri.half(numbering.places[k as usize]).vec;
+    pair_over(f, start, &v)
 }
 
 /// The new number of the twin of the half-edge of new number k.
@@ -50,81 +193,147 @@ fn twin_at(tri: &Tri, numbering: &Numbering, k: u32) -> i128
     )
 }
 
-/// The numbers of triangle t over the scale 1, none where its vectors aren't whole or a step is wide.
+/// The coordinates of the first two half-edges of triangle t, of the new numbers, over the best scale, none where they aren't whole.
+fn both_at(
+    f: &Field,
+    tri: &Tri,
+    start: &Scaled,
+    numbering: &Numbering,
+    t: u32,
+) -> Result<Option<(Quad, Quad, Quad, Quad)>, TooWide>
+    requires positive { pos 0 <ℤ start.now.divisor }
+    requires small { IfSome start.now.small (IsSmallFrame f.now start.now.frame start.now.divisor) }
+    requires numbering { (h : ℕ) × IsNumberedBy tri.now.halves h numbering.now.places.items numbering.now.numbers.items }
+    requires triangle { 3 * t + 2 < length tri.now.halves }
+    ensures first { IfOk result (λ o. IfSome o (λ w. IsWholeAt f.now tri.now.halves start.now numbering.now.places.items (3 * t) (w.0, w.1))) }
+    ensures second { IfOk result (λ o. IfSome o (λ w. IsWholeAt f.now tri.now.halves start.now numbering.now.places.items (3 * t + 1) (w.2, w.3))) }
+    ensures none { IfOk result (λ o. IfNone o (HasNoWhole f.now tri.now.halves start.now numbering.now.places.items)) }
+    ensures fits { IfOk result (λ o. IfSome o (λ w. PartsFit w.0 × PartsFit w.1 × PartsFit w.2 × PartsFit w.3)) }
+{
+    let _count = tri.triangles();
+    match whole_at(f, tri, start, numbering, 3 * t)? {
+        Some((x, y)) => match whole_at(f, tri, start, numbering, 3 * t + 1)? {
+            Some((z, w)) => Ok(Some((x, y, z, w))),
+            None => Ok(None),
+        },
+        None => Ok(None),
+    }
+}
+
+/// The numbers of triangle t over the best scale, none where its vectors aren't whole.
 fn whole_row(
     f: &Field,
     tri: &Tri,
-    frame: &Frame,
+    start: &Scaled,
     numbering: &Numbering,
     t: u32,
-) -> Option<[i128; 11]>
+) -> Result<Option<[i128; 11]>, TooWide>
     requires valid { IsTriangulation tri.now.field tri.now.halves }
-    requires norm { pos 0 <ℤ frame.now.norm }
+    requires positive { pos 0 <ℤ start.now.divisor }
+    requires small { IfSome start.now.small (IsSmallFrame f.now start.now.frame start.now.divisor) }
     requires numbering { (h : ℕ) × IsNumberedBy tri.now.halves h numbering.now.places.items numbering.now.numbers.items }
     requires triangle { 3 * t + 2 < length tri.now.halves }
-    ensures { IfSome result (IsWholeRow f.now tri.now.halves frame.now numbering.now.places.items numbering.now.numbers.items t) }
+    ensures whole { IfOk result (λ o. IfSome o (IsWholeRow f.now tri.now.halves start.now numbering.now.places.items numbering.now.numbers.items t)) }
+    ensures none { IfOk result (λ o. IfNone o (HasNoWhole f.now tri.now.halves start.now numbering.now.places.items)) }
 {
-    let (x, y) = whole_at(f, tri, frame, numbering, 3 * t)?;
-    let (z, w) = whole_at(f, tri, frame, numbering, 3 * t + 1)?;
-    let one = twin_at(tri, numbering, 3 * t);
-    let two = twin_at(tri, numbering, 3 * t + 1);
-    let three = twin_at(tri, numbering, 3 * t + 2);
-    Some([x.a, x.b, y.a, y.b, z.a, z.b, w.a, w.b, one, two, three])
+    match both_at(f, tri, start, numbering, t)? {
+        Some((x, y, z, w)) => {
+            let one = twin_at(tri, numbering, 3 * t);
+            let two = twin_at(tri, numbering, 3 * t + 1);
+            let three = twin_at(tri, numbering, 3 * t + 2);
+            Ok(Some([x.a, x.b, y.a, y.b, z.a, z.b, w.a, w.b, one, two, three]))
+        }
+        None => Ok(None),
+    }
 }
 
-/// Whether a start is after a best one of scale 1, told by the first triangle that differs. Where that isn't told the answer is no.
-fn is_after(best: &[i128], f: &Field, tri: &Tri, frame: &Frame, numbering: &Numbering) -> bool
-    requires field { f.now ≡ tri.now.field }
-    requires norm { pos 0 <ℤ frame.now.norm }
+/// Whether a half-edge, from new number `from` on, has coordinates that aren't whole over the best scale. Where that isn't told the answer is no.
+fn is_broken(f: &Field, tri: &Tri, start: &Scaled, numbering: &Numbering, from: u32) -> bool
+    requires positive { pos 0 <ℤ start.now.divisor }
+    requires small { IfSome start.now.small (IsSmallFrame f.now start.now.frame start.now.divisor) }
     requires numbering { (h : ℕ) × IsNumberedBy tri.now.halves h numbering.now.places.items numbering.now.numbers.items }
-    requires long { length best.now ≡ 2 + 11 * (length tri.now.halves / 3) }
-    requires first { number_at best.now 0 ≡ pos (length tri.now.halves / 3) }
-    requires scale { number_at best.now 1 ≡ pos 1 }
-    ensures { IsTrue result → (h : ℕ) (serial : List ℤ) → h < length tri.now.halves → IsFrameOf f.now tri.now.halves h frame.now
-        → IsNumberedBy tri.now.halves h numbering.now.places.items numbering.now.numbers.items → IsSerial f.now tri.now.halves h serial → IsBefore best.now serial }
+    ensures { IsTrue result → HasNoWhole f.now tri.now.halves start.now numbering.now.places.items }
 {
-    let _number = f.number();
-    let count = tri.triangles();
-    for t in 0..count {
-        let Some(row) = whole_row(f, tri, frame, numbering, t) else {
-            return false;
-        };
-        match row.as_slice().cmp(row_in(best, t)) {
-            Ordering::Less => return false,
-            Ordering::Equal => {}
-            Ordering::Greater => return true,
+    if start.divisor == 1 {
+        return false;
+    }
+    let count = 3 * tri.triangles();
+    for k in from..count {
+        match whole_at(f, tri, start, numbering, k) {
+            Ok(Some(_whole)) => {}
+            Ok(None) => return true,
+            Err(TooWide) => return false,
         }
     }
     false
 }
 
-/// The numbering from start h, in the lists of an earlier one, and whether it is told by it that the start is after the best.
-pub fn given_up(
+/// How a start compares with the best, told by the first triangle that differs.
+fn compared(best: &[i128], f: &Field, tri: &Tri, start: &Scaled, numbering: &Numbering) -> Told
+    requires field { f.now ≡ tri.now.field }
+    requires start { IsScaledBy f.now tri.now.halves (number_at best.now 1) start.now }
+    requires small { IfSome start.now.small (IsSmallFrame f.now start.now.frame start.now.divisor) }
+    requires numbering { IsNumberedBy tri.now.halves start.now.h numbering.now.places.items numbering.now.numbers.items }
+    requires long { length best.now ≡ 2 + 11 * (length tri.now.halves / 3) }
+    requires first { number_at best.now 0 ≡ pos (length tri.now.halves / 3) }
+    ensures { IsTold f.now tri.now.halves start.now.h best.now result }
+{
+    let _number = f.number();
+    let count = tri.triangles();
+    for t in 0..count {
+        match whole_row(f, tri, start, numbering, t) {
+            Ok(Some(row)) => match row.as_slice().cmp(row_in(best, t)) {
+                Ordering::Less => {
+                    if is_broken(f, tri, start, numbering, 3 * t + 3) {
+                        return Told::After;
+                    }
+                    return Told::Open;
+                }
+                Ordering::Equal => {}
+                Ordering::Greater => return Told::After,
+            },
+            Ok(None) => return Told::After,
+            Err(TooWide) => return Told::Open,
+        }
+    }
+    Told::Same
+}
+
+/// What is told of start h, whose numbering is made in the lists of an earlier one where its scale may be the best one.
+pub fn told_of(
     f: &Field,
     tri: &Tri,
     h: u32,
     old: Numbering,
     best: &[i128],
-) -> Result<(Numbering, bool), AllocError>
+) -> Result<(Numbering, Told), AllocError>
     requires field { f.now ≡ tri.now.field }
     requires half { h < length tri.now.halves }
     requires long { length best.now ≡ 2 + 11 * (length tri.now.halves / 3) }
     requires first { number_at best.now 0 ≡ pos (length tri.now.halves / 3) }
-    ensures { IfOk result (λ r. IsTrue r.1 → (serial : List ℤ) → IsSerial f.now tri.now.halves h serial → IsBefore best.now serial) }
+    requires scale { pos 0 <ℤ number_at best.now 1 }
+    ensures { IfOk result (λ r. IsTold f.now tri.now.halves h best.now r.1) }
 {
     let _count = tri.triangles();
-    let numbering = number_from(tri, h, old)?;
-    if best[1] != 1 {
-        return Ok((numbering, false));
-    }
-    let e = tri.half(h).vec;
-    let g = tri.half(Tri::next(h)).vec;
-    let Ok(frame) = frame_of(f, &e, &g) else {
-        return Ok((numbering, false));
+    let Some(frame) = positive_frame(f, tri, h) else {
+        return Ok((old, Told::Open));
     };
-    if frame.norm < 1 {
-        return Ok((numbering, false));
+    let scale = scale_number(best);
+    let divisor = divisor_of(f, tri, h, &frame, scale);
+    let small = small_of(f, &frame, divisor);
+    let start = Scaled {
+        h,
+        frame,
+        divisor,
+        small,
+    };
+    match quotient(frame.norm, divisor).cmp(&scale) {
+        Ordering::Less => Ok((old, Told::Open)),
+        Ordering::Greater => Ok((old, Told::After)),
+        Ordering::Equal => {
+            let numbering = number_from(tri, h, old)?;
+            let told = compared(best, f, tri, &start, &numbering);
+            Ok((numbering, told))
+        }
     }
-    let after = is_after(best, f, tri, &frame, &numbering);
-    Ok((numbering, after))
 }

@@ -1,4 +1,4 @@
-use Rattle.std.proofs.Common.{◌≡◌, ◌/◌, ◌+◌, ◌*◌, ◌∷◌, [], ℕ, List, length, sym, ap, ◌∙◌, subst}
+use Rattle.std.proofs.Common.{◌≡◌, ◌/◌, ◌+◌, ◌*◌, ◌∷◌, ◌++◌, [], ℕ, List, length, sym, ap, ◌∙◌, subst}
 use mathlib.Core.Path.{subst₂}
 use Rattle.std.specs.Prelude.{ℤ, pos, unsigned_abs}
 use Rattle.std.specs.Ordering.{int_cmp}
@@ -12,7 +12,7 @@ use Rattle.canon_code.specs.Least.{IsBestTo}
 use Rattle.canon_code.specs.Tries.{tried_serial}
 use Rattle.canon_code.proofs.Listed.{serial_is}
 use Rattle.canon_code.proofs.Least.{best_long, best_first, least_less, least_same, least_greater}
-use Rattle.canon_code.proofs.Results.{if_ok_three}
+use Rattle.canon_code.proofs.Results.{if_ok_two, if_ok_three}
 use Rattle.canon_code.proofs.canon.better.Goals as goal
 
 pub order_of-requires-clause-long : goal.order_of-requires-clause-long
@@ -46,8 +46,8 @@ returns-in-Less c =
       thirds = subst (ThirdVectorsFit d) p r;
     }))
 
-pub returns-in_ok-push-in-Equal : goal.returns-in_ok-push-in-Equal
-returns-in_ok-push-in-Equal c =
+pub returns-in-Equal : goal.returns-in-Equal
+returns-in-Equal c =
     let halves = c.args.tri.now.halves in
     let d : ℕ = c.args.f.now in
     let valid : IsTriangulation d halves = subst (λ n. IsTriangulation n halves) (sym c.requires.field) c.triangles-count.ensures.valid in
@@ -57,11 +57,15 @@ returns-in_ok-push-in-Equal c =
     serial_is d halves c.args.h (unsigned_abs c.args.tried.now.coordinates.scale) c.args.tried.now.numbering.places.items c.args.tried.now.numbering.numbers.items c.args.tried.now.coordinates.list.items
     c.requires.tried.numbering c.requires.tried.coordinates in
     let same : slice_cmp int_cmp serial c.args.best.serial.items ≡ Equal = ap (slice_cmp int_cmp serial) (sym c.as_slice.ensures.value) ∙ c.order_of.ensures ∙ c.in-Equal.is in
-    subst (IsBestTo d halves (c.args.h + 1) c.args.best.serial.items) (sym c.in_ok-push-in-Equal.ensures.items)
+    if_ok_two c.with_start.result (λ (b : Best). b.serial.items ≡ c.args.best.serial.items) (λ (b : Best). b.starts.items ≡ c.args.best.starts.items ++ c.args.h ∷ [])
+    (λ (b : Best). IsBestTo d halves (c.args.h + 1) b.serial.items b.starts.items)
+    c.with_start.ensures.serial c.with_start.ensures.starts
+    (λ b p q.
+    subst₂ (λ (s : List ℤ) (l : List ℕ). IsBestTo d halves (c.args.h + 1) s l) (sym p) (sym q)
     (record {
       best = least_same d field halves valid c.args.h c.args.best.serial.items serial c.args.best.starts.items c.requires.half c.requires.best.best own same;
       thirds = c.requires.best.thirds;
-    })
+    }))
 
 pub returns-in-Greater : goal.returns-in-Greater
 returns-in-Greater c =

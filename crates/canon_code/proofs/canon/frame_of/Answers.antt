@@ -6,7 +6,7 @@ use Rattle.tri_core.specs.Triangulation.{IsTriangulation}
 use Rattle.tri_core.specs.declared.half.Half.{Half}
 use Rattle.plane.specs.Matrices.{IsReducedTo}
 use Rattle.canon_code.specs.Serials.{IsSerial}
-use Rattle.canon_code.specs.Canonical.{canonical, frame as frame_at_start}
+use Rattle.canon_code.specs.Canonical.{frame as frame_at_start}
 use Rattle.canon_code.proofs.Framed.{frame_is}
 use Rattle.canon_code.proofs.canon.frame_of.Goals as goal
 
