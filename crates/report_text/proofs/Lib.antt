@@ -1,0 +1,12 @@
+mod Bytes
+mod Injective
+mod LineTexts
+mod Follows
+mod ReportTexts
+mod Verdicts
+mod Neither
+mod NextLines
+mod MatrixLines
+mod Order
+mod Wholes
+mod Fields
