@@ -1,5 +1,5 @@
 -- The text of `base`.
-use Rattle.std.specs.Prelude.{ℕ, List, [], ◌∷◌, ◌++◌, length, codes}
+use Rattle.std.specs.Prelude.{ℕ, List, [], ◌∷◌, length, codes}
 use Rattle.std.specs.List.{concat, flat_map, range_with_len}
 use Rattle.plane.specs.Spelling.{natural_text, vector_text}
 use Rattle.tri_core.specs.declared.half.Half.{Half}

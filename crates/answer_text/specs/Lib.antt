@@ -4,3 +4,4 @@ pub mod CheckTexts
 pub mod BaseTexts
 pub mod RegionTexts
 pub mod WalkTexts
+pub mod SummaryTexts

@@ -1,5 +1,5 @@
 -- The line of each status.
-use Rattle.std.specs.Prelude.{ℕ, ℤ, Option, Some, None, List, [], ◌∷◌, ◌++◌, codes, get_or}
+use Rattle.std.specs.Prelude.{ℕ, ℤ, Option, Some, None, List, [], ◌∷◌, codes, get_or}
 use Rattle.std.specs.List.{concat}
 use Rattle.quad_field.specs.declared.formula.Formula.{Formula}
 use Rattle.quad_field.specs.declared.formula.Formula.TheVariants.{F1, F2, F3, F4, F5, F6, F7, F8, F9, F10, F11, F12, F13}

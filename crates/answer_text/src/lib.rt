@@ -11,6 +11,7 @@ mod no_cause;
 mod place;
 mod region_lines;
 mod status;
+mod summary_lines;
 mod walk_lines;
 
 pub use counts::check_text;
@@ -20,6 +21,7 @@ pub use no_cause::NoCause;
 pub use place::Place;
 pub use region_lines::region_text;
 pub use status::{Status, status_number};
+pub use summary_lines::{summary_text, trial_text};
 pub use walk_lines::path_text;
 
 #[cfg(test)]

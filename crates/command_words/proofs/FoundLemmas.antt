@@ -1,5 +1,5 @@
 -- What stands in the matches of a line under each id.
-use Rattle.std.proofs.Common.{◌≡◌, ◌∙◌, ◌&&◌, ◌||◌, ◌⊎◌, ℕ, Bool, true, false, true≢false, not, cond, nat_lt, List, [], ◌∷◌, ◌++◌, map, codes, Option, Some, None, IsSome, IsNone, option_map, refl, ap, ap₂, sym, subst, inl, inr}
+use Rattle.std.proofs.Common.{◌≡◌, ◌∙◌, ◌||◌, ◌⊎◌, ℕ, Bool, true, false, true≢false, cond, nat_lt, List, [], ◌∷◌, ◌++◌, map, codes, Option, Some, None, IsSome, IsNone, option_map, refl, ap, ap₂, sym, subst, inl, inr}
 use Rattle.std.specs.Prelude.{option_and_then, slice_get, IfSome}
 use Rattle.std.specs.Bool.{MatchBool}
 use Rattle.std.specs.List.{AllByRecursion, find, fold}
@@ -8,7 +8,7 @@ use Rattle.std.specs.Str.{bytes_eq}
 use Rattle.std.proofs.lemmas.Slice.Eq.{bytes_eq-Decides}
 use Rattle.std.proofs.lemmas.List.Folds.{find-append}
 use Rattle.std.proofs.lemmas.List.Sums.{fold-append}
-use Rattle.clap.specs.Walk.{Row, Rule, all_of, default_rows, first_of, has_row, more_values, one_of, row_text, rows_of, with_default}
+use Rattle.clap.specs.Walk.{Row, all_of, default_rows, first_of, has_row, more_values, one_of, row_text, rows_of, with_default}
 use Rattle.clap.specs.Matches.{one_text}
 use Rattle.clap.specs.declared.parser.matches.Found.{Found}
 use Rattle.clap.proofs.WalkLemmas.{first_value-rows, one_text-rows, raw_values-rows}
@@ -16,11 +16,11 @@ use Rattle.clap.specs.declared.builder.value_parser.Reading.TheVariants.{AsWritt
 use Rattle.clap.specs.declared.parser.matches.ValueSource.TheVariants.{DefaultValue}
 use Rattle.plane.specs.Spelling.{natural_text}
 use Rattle.command_words.specs.declared.rows.NumberBounds.{NumberBounds}
-use Rattle.command_words.specs.Lines.{OptionRow, CommandRow, Value, nothing, apart, joined, Given, Takes, IsGivenOf, AreDistinct, number_given, number_with}
+use Rattle.command_words.specs.Lines.{OptionRow, CommandRow, Value, nothing, apart, joined, Given, Takes, IsGivenOf, AreDistinct, number_given, number_with, is_given}
 use Rattle.command_words.specs.Fronts.{IsName, IsRow}
-use Rattle.command_words.specs.Parsers.{values_id, IsOption, HoldsLine, is_given, values_text}
+use Rattle.command_words.specs.Parsers.{values_id, IsOption, HoldsLine, values_text}
 use Rattle.command_words.proofs.GivenLemmas.{is_name}
-use Rattle.command_words.proofs.RuleLemmas.{full_with, full_option, full_plain, full_rules, full_values, same_bytes, other_bytes, option_name, not_values}
+use Rattle.command_words.proofs.RuleLemmas.{full_with, full_option, full_plain, full_rules, full_values, other_bytes, option_name}
 use Rattle.command_words.proofs.RowLemmas.{row_with, row_given, row_values, kept_texts, at_row_end}
 use Rattle.command_words.proofs.WalkLemmas.{values_rows}
 

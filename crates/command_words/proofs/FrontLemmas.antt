@@ -1,10 +1,10 @@
 -- What the words at the front of a list give.
-use Rattle.std.proofs.Common.{◌≡◌, ℕ, zero, suc, ◌+◌, ◌<◌, ◌≤◌, Bool, true, false, is_some, List, [], ◌∷◌, ◌++◌, map, length, take, drop, get_or, codes, Option, Some, None, MatchOption, refl, ap, sym, ◌∙◌, subst, inl, inr, arith, append_assoc}
-use Rattle.std.proofs.lemmas.List.{append_cancel_left, append-nil, drop_at, length-append, drop_more, take_all}
+use Rattle.std.proofs.Common.{◌≡◌, ℕ, zero, suc, ◌+◌, ◌<◌, ◌≤◌, List, [], ◌∷◌, ◌++◌, map, length, drop, get_or, codes, Option, Some, None, MatchOption, refl, ap, sym, ◌∙◌, subst, inl, inr, arith, append_assoc}
+use Rattle.std.proofs.lemmas.List.{append_cancel_left, append-nil, drop_at, length-append, drop_more}
 use Rattle.plane.specs.Spelling.{natural_text}
 use Rattle.command_words.specs.declared.rows.NumberBounds.{NumberBounds}
 use Rattle.command_words.specs.declared.rows.OptionRow.{OptionRow as TableRow}
-use Rattle.command_words.specs.Lines.{OptionRow, Value, nothing, apart, joined, Given, words_with, given_words, Takes, IsGivenAs, IsGivenOf}
+use Rattle.command_words.specs.Lines.{OptionRow, Value, nothing, apart, joined, Given, words_with, given_words, IsGivenAs, IsGivenOf}
 use Rattle.command_words.specs.Rows.{option_of}
 use Rattle.command_words.specs.Fronts.{IsWithin, FollowsBy, GivesValue, GivesNoValue, GivesFirst, GivesNone}
 

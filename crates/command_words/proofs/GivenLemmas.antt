@@ -1,15 +1,15 @@
 -- Words at the front of a list give at most one option.
-use Rattle.std.proofs.Common.{◌≡◌, ◌↔◌, ℕ, ◌+◌, ◌<◌, ◌≤◌, ◌⊎◌, Bool, true, false, true≢false, cond, IsTrue, MatchOption, is_some, Bor, List, [], ◌∷◌, ◌++◌, map, length, codes, Option, Some, None, refl, ap, sym, ◌∙◌, subst, inl, inr, arith, append_assoc}
+use Rattle.std.proofs.Common.{◌≡◌, ◌↔◌, ℕ, ◌+◌, ◌<◌, ◌≤◌, Bool, false, true≢false, cond, IsTrue, MatchOption, is_some, Bor, List, [], ◌∷◌, ◌++◌, map, length, codes, Option, Some, None, refl, ap, sym, ◌∙◌, subst, inl, inr, arith, append_assoc}
 use Rattle.std.specs.Prelude.{◌==◌}
 use Rattle.std.specs.List.{flat_map, AllByRecursion}
 use Rattle.std.specs.Char.{digit_value}
 use Rattle.std.specs.Str.Parse.{AllDigits}
-use Rattle.std.proofs.lemmas.Bool.Decides.{Decides-eqb, nat_tests}
+use Rattle.std.proofs.lemmas.Bool.Decides.{nat_tests}
 use Rattle.std.proofs.lemmas.List.{append_cancel_left, append-nil}
 use Rattle.plane.specs.Spelling.{natural_text}
 use Rattle.plane.proofs.CallerLemmas.{natural_text_injective, natural_text_digits, natural_text_some, glyph_of_value}
 use Rattle.command_words.specs.declared.rows.NumberBounds.{NumberBounds}
-use Rattle.command_words.specs.Lines.{OptionRow, CommandRow, Value, nothing, apart, joined, Given, words_with, given_words, Takes, IsGivenAs, IsGivenOf, AreDistinct, names_of}
+use Rattle.command_words.specs.Lines.{OptionRow, CommandRow, Value, nothing, apart, joined, Given, words_with, given_words, Takes, IsGivenOf, AreDistinct, names_of}
 use Rattle.command_words.specs.Fronts.{IsName, IsRow, EndsName, NamesOption, IsNamed}
 
 -- ---- the first byte of a number is a digit

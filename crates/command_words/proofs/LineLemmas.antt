@@ -1,12 +1,12 @@
 -- How the words of a line are looked at, one option after another.
 use Rattle.std.proofs.Common.{◌≡◌, ℕ, zero, suc, ◌+◌, ◌-◌, ◌<◌, ◌≤◌, ◌↔◌, List, [], ◌∷◌, ◌++◌, map, length, take, drop, get_or, string_bytes, String, Global, refl, ap, ap₂, sym, ◌∙◌, subst, inl, inr, arith, append_assoc}
 use Rattle.std.specs.List.{flat_map, AllByRecursion}
-use Rattle.std.proofs.lemmas.List.{append_cancel_left, append-nil, take-append-drop, drop-drop, take_at, map-append, drop_more, length-map, length-append, take-map, drop-map, take_rest}
+use Rattle.std.proofs.lemmas.List.{append_cancel_left, append-nil, take-append-drop, take_at, map-append, drop_more, length-map, length-append, take-map, drop-map, take_rest}
 use Rattle.std.proofs.Math.Seq.{take-add}
 use Rattle.std.proofs.lemmas.List.Concat.{flat_map-append}
 use Rattle.plane.specs.Spelling.{natural_text}
 use Rattle.command_words.specs.declared.rows.PlainBounds.{PlainBounds}
-use Rattle.command_words.specs.Lines.{OptionRow, CommandRow, Given, given_words, IsGivenOf, AreDistinct, names_of, IsLine, IsTaken}
+use Rattle.command_words.specs.Lines.{CommandRow, Given, given_words, IsGivenOf, AreDistinct, names_of, IsLine, IsTaken}
 use Rattle.command_words.specs.Fronts.{IsName, IsRow, NamesOption, IsNamed, IsBelow, ArePlain, GivesFirst, GivesNone}
 use Rattle.command_words.proofs.GivenLemmas.{no_hyphen, opened, tail_text, more_words, is_name, one_given, named_among, not_among}
 

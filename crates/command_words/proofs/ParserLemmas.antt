@@ -1,8 +1,7 @@
 -- What clap makes of the command of a row.
-use Rattle.std.proofs.Common.{◌≡◌, ◌≢◌, ◌∙◌, ℕ, ◌+◌, ◌<◌, ◌≤◌, Bool, true, cond, nat_lt, arith, List, [], ◌∷◌, ◌++◌, map, length, take, drop, get_or, refl, ap, sym}
+use Rattle.std.proofs.Common.{◌≡◌, ◌≢◌, ◌∙◌, ℕ, ◌+◌, ◌<◌, ◌≤◌, true, cond, nat_lt, arith, List, [], ◌∷◌, ◌++◌, map, length, take, get_or, ap, sym}
 use Rattle.std.proofs.lemmas.List.{map-append, take_more, take_all}
 use Rattle.std.proofs.lemmas.Bool.Decides.{nat_tests}
-use Rattle.clap.specs.Walk.{Rule}
 use Rattle.command_words.specs.declared.rows.OptionRow.{OptionRow as TableRow}
 use Rattle.command_words.specs.declared.rows.PlainBounds.{PlainBounds}
 use Rattle.command_words.specs.Rows.{option_of}

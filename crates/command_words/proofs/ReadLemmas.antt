@@ -1,29 +1,19 @@
 -- What clap reads of a line: it takes the words, and its matches hold what they say.
 use Rattle.std.proofs.Common.{◌≡◌, ◌∙◌, ◌&&◌, ◌||◌, ◌⊎◌, ℕ, Bool, true, false, true≢false, not, cond, nat_lt, List, [], ◌∷◌, ◌++◌, map, drop, codes, Option, Some, None, IsSome, IsNone, option_map, refl, ap, ap₂, sym, subst, inl, inr}
-use Rattle.std.specs.Prelude.{option_and_then, slice_get, IfSome}
-use Rattle.std.specs.Bool.{MatchBool}
-use Rattle.std.specs.List.{AllByRecursion, find, fold, flat_map, list_all, list_any}
-use Rattle.std.specs.Option.{option_or}
-use Rattle.std.specs.Str.{bytes_eq}
-use Rattle.std.proofs.lemmas.List.Folds.{find-append}
-use Rattle.std.proofs.lemmas.List.Sums.{fold-append}
-use Rattle.clap.specs.Walk.{Held, Row, Rule, Walk, all_of, finished, first_of, has_row, more_values, nothing_held, one_of, rows_of, settled, walk, with_default}
-use Rattle.clap.specs.Simple.{App, HasMatchesOf, argument_words, built, entered, is_simple, matches_of, names_of}
-use Rattle.clap.specs.Takes.{built_takes, default_passes, entered_passes, is_given as is_row_given, is_valid, settle_passes, takes, walk_passes}
-use Rattle.clap.specs.Matches.{first_value, found_of, matched_of, one_text, raw_values}
-use Rattle.clap.specs.declared.builder.value_parser.Reading.TheVariants.{AsWritten}
-use Rattle.clap.specs.declared.parser.matches.ValueSource.TheVariants.{DefaultValue}
+use Rattle.std.specs.List.{fold, flat_map, list_all}
+use Rattle.clap.specs.Walk.{Row, Rule, Walk, finished, nothing_held, rows_of, walk, with_default}
+use Rattle.clap.specs.Simple.{App, HasMatchesOf, argument_words, entered, matches_of, names_of}
+use Rattle.clap.specs.Takes.{built_takes, default_passes, entered_passes, is_given as is_row_given, is_valid, settle_passes, takes}
+use Rattle.clap.specs.Matches.{found_of}
 use Rattle.clap.specs.declared.parser.matches.ArgMatches.{ArgMatches}
-use Rattle.clap.specs.declared.parser.matches.Found.{Found}
-use Rattle.clap.proofs.WalkLemmas.{first_value-rows, one_text-rows, raw_values-rows}
 use Rattle.plane.specs.Spelling.{natural_text}
 use Rattle.command_words.specs.declared.rows.NumberBounds.{NumberBounds}
-use Rattle.command_words.specs.Lines.{OptionRow, CommandRow, Value, nothing, apart, joined, Given, given_words, Takes, IsGivenAs, IsGivenOf, AreDistinct, IsLine, number_given}
-use Rattle.command_words.specs.Fronts.{IsName, IsRow}
-use Rattle.command_words.specs.Parsers.{values_id, parser_of, IsOption, HoldsLine, is_given, values_text}
-use Rattle.command_words.proofs.RuleLemmas.{full_with, full_option, full_plain, full_rules, full_shape, full_app, full_values, built_row, simple_row, full_rules_pass, same_bytes, other_bytes, option_name}
-use Rattle.command_words.proofs.RowLemmas.{row_with, row_given, row_values, kept_texts, at_row_end}
-use Rattle.command_words.proofs.WalkLemmas.{Holds, standing, line_walk, values_rows}
+use Rattle.command_words.specs.Lines.{CommandRow, Given, given_words, IsLine}
+use Rattle.command_words.specs.Fronts.{IsRow}
+use Rattle.command_words.specs.Parsers.{parser_of}
+use Rattle.command_words.proofs.RuleLemmas.{full_with, full_rules, full_shape, full_app, built_row, simple_row, full_rules_pass}
+use Rattle.command_words.proofs.RowLemmas.{row_given}
+use Rattle.command_words.proofs.WalkLemmas.{line_walk, values_rows}
 
 -- ---- clap takes the words
 module _ (row : CommandRow) (is : IsRow row) where

@@ -1,5 +1,5 @@
 -- The arguments of a row's command as clap's building fills them in, and how clap finds them.
-use Rattle.std.proofs.Common.{◌≡◌, ◌∙◌, ◌&&◌, ◌||◌, ℕ, ◌+◌, ◌<◌, arith, Bool, true, false, true≢false, not, cond, nat_lt, List, [], ◌∷◌, ◌++◌, map, codes, Option, Some, None, is_some, unwrap_or, refl, ap, ap₂, sym, subst, inl, inr}
+use Rattle.std.proofs.Common.{◌≡◌, ◌∙◌, ◌&&◌, ◌||◌, ℕ, ◌+◌, ◌<◌, arith, Bool, true, false, not, cond, nat_lt, List, [], ◌∷◌, ◌++◌, map, codes, Option, Some, None, is_some, unwrap_or, refl, ap, ap₂, sym, subst, inl, inr}
 use Rattle.std.specs.List.{AllByRecursion, find, list_all, list_any, count_by}
 use Rattle.std.specs.Option.{option_map_or}
 use Rattle.std.proofs.lemmas.Bool.Decides.{nat_tests}
@@ -9,7 +9,7 @@ use Rattle.std.proofs.lemmas.Slice.Eq.{bytes_eq-Decides}
 use Rattle.std.proofs.lemmas.List.Folds.{list_all-append, list_any-append}
 use Rattle.std.proofs.lemmas.List.Recursion.{is_count_by}
 use Rattle.clap.specs.Walk.{Rule, arg_by_id, arg_by_long, arg_by_index, has_long, is_early_multiple, is_multiple}
-use Rattle.clap.specs.Simple.{App, Shape, built, filled, filled_from, is_in_order, is_simple, new_rule, new_shape, with_index}
+use Rattle.clap.specs.Simple.{App, Shape, built, filled_from, is_in_order, is_simple, new_rule, new_shape}
 use Rattle.clap.specs.declared.builder.action.ArgAction.TheVariants.{Set, Append, SetTrue}
 use Rattle.clap.specs.declared.builder.value_parser.ValueParser.TheVariants as parsers
 use Rattle.command_words.specs.declared.rows.NumberBounds.{NumberBounds}

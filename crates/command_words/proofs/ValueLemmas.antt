@@ -1,17 +1,19 @@
 -- The number of an option, from the matches of a line to the line.
-use Rattle.std.proofs.Common.{◌≡◌, ◌∙◌, ℕ, zero, suc, ◌+◌, ◌++◌, length, take, get_or, ◌^◌, ◌<◌, ◌≤◌, Bool, true, false, cond, List, [], ◌∷◌, map, Option, Some, None, IsSome, MatchOption, option_map, refl, ap, ap₂, sym, subst, arith}
-use Rattle.std.specs.Prelude.{IfSome, IsSomeAnd}
+use Rattle.std.proofs.Common.{◌≡◌, ◌∙◌, ℕ, zero, suc, ◌+◌, ◌++◌, length, take, get_or, ◌^◌, ◌<◌, ◌≤◌, Bool, true, false, cond, Bor, List, [], ◌∷◌, map, codes, Option, Some, None, IsSome, MatchOption, option_map, refl, ap, ap₂, sym, subst, arith}
+use Rattle.std.specs.Prelude.{IfSome, IsSomeAnd, IsNone, option_and_then, slice_get}
+use Rattle.std.specs.Bool.{MatchBool}
 use Rattle.std.specs.List.{AllByRecursion}
 use Rattle.std.specs.Str.{bytes_eq}
 use Rattle.std.proofs.lemmas.List.{take_more, map-append}
 use Rattle.std.proofs.lemmas.Slice.Eq.{bytes_eq-Decides}
-use Rattle.clap.specs.Matches.{first_value}
+use Rattle.clap.specs.Matches.{first_value, one_text, matched_of, raw_values}
+use Rattle.clap.specs.declared.parser.matches.MatchedArg.{MatchedArg}
 use Rattle.clap.specs.declared.parser.matches.Found.{Found}
 use Rattle.plane.specs.Spelling.{natural_text}
 use Rattle.plane.proofs.CallerLemmas.{natural_text_injective}
 use Rattle.command_words.specs.declared.rows.NumberBounds.{NumberBounds}
-use Rattle.command_words.specs.Lines.{OptionRow, CommandRow, Value, nothing, apart, joined, Given, Takes, IsGivenOf, AreDistinct, number_with, number_given}
-use Rattle.command_words.specs.Parsers.{IsOption, HoldsLine, values_text}
+use Rattle.command_words.specs.Lines.{OptionRow, CommandRow, Value, nothing, apart, joined, Given, Takes, IsGivenOf, AreDistinct, number_with, number_given, is_given}
+use Rattle.command_words.specs.Parsers.{values_id, IsOption, HoldsPlain, HoldsLine, values_text}
 use Rattle.command_words.specs.Commands.{IsNumberOf}
 use Rattle.command_words.proofs.FoundLemmas.{takes_of}
 
@@ -111,3 +113,63 @@ pub numbers_more : {X : Type 0} (f : X → List ℕ) (words : List X) (i : ℕ) 
 numbers_more f words i d numbers more n under before here is =
     ap (map f) (take_more words i d under) ∙ map-append f (take i words) (get_or words i d ∷ [])
     ∙ ap₂ (λ (xs ys : List (List ℕ)). xs ++ ys) before (ap (λ text. text ∷ []) here) ∙ sym (map-append natural_text numbers (n ∷ [])) ∙ ap (map natural_text) (sym is)
+
+-- ---- flags
+-- what is read of a flag says whether it is given
+pub flag_read : (row : CommandRow) (one : OptionRow) → IsOption row.options one → IsNone one.numbers → (options : List Given) (plain : List ℕ) (found : Found) → HoldsLine row options plain found
+    → (r : Bool) → (one_text found one.name ≡ Some (codes "true") → r ≡ true) → (IfSome (one_text found one.name) (λ text. text ≡ codes "false") → r ≡ false)
+    → r ≡ is_given one.name options
+flag_read row one among flag options plain found holds r set unset = at (is_given one.name options) (holds.flags one among flag)
+  where
+    at : (b : Bool) → MatchBool b (one_text found one.name ≡ Some (codes "true")) (IfSome (one_text found one.name) (λ text. text ≡ codes "false")) → r ≡ b
+    at true h = set h
+    at false h = unset h
+
+-- ---- one plain value
+-- the only value of a list
+only_value : (plain : List ℕ) → 1 ≤ length plain → length plain ≤ 1 → (n : ℕ) × (plain ≡ n ∷ [])
+only_value [] some few = absurd (omega arith)
+only_value (n ∷ []) some few = (n, refl)
+only_value (n ∷ m ∷ plain) some few = absurd (omega arith)
+
+pub value_held : (bound : ℕ) (plain : List ℕ) → bound < 2 ^ 32 → 1 ≤ length plain → length plain ≤ 1 → AllByRecursion (λ n. n < bound) plain → (found : Found) → HoldsPlain plain found
+    → (n : ℕ) × (n < 2 ^ 32) × HoldsPlain (n ∷ []) found
+value_held bound plain small some few below found holds =
+    let (n, e) = only_value plain some few in
+    let under : AllByRecursion (λ n. n < bound) (n ∷ []) = subst (AllByRecursion (λ n. n < bound)) e below in
+    (n, omega (arith, small, under.0), subst (λ (list : List ℕ). HoldsPlain list found) e holds)
+
+pub value_read : (plain : List ℕ) → 1 ≤ length plain → length plain ≤ 1 → (found : Found) → HoldsPlain plain found
+    → (r kept : ℕ) → kept ≡ r → ((n : ℕ) → HoldsPlain (n ∷ []) found → r ≡ n) → plain ≡ kept ∷ []
+value_read plain some few found holds r kept same reads =
+    let (n, e) = only_value plain some few in
+    e ∙ ap (λ (m : ℕ). m ∷ []) (sym (reads n (subst (λ (list : List ℕ). HoldsPlain list found) e holds)) ∙ sym same)
+
+pub value_within : (bound : ℕ) (plain : List ℕ) → 1 ≤ length plain → length plain ≤ 1 → AllByRecursion (λ n. n < bound) plain → (found : Found) → HoldsPlain plain found
+    → (r : ℕ) → ((n : ℕ) → HoldsPlain (n ∷ []) found → r ≡ n) → r < bound
+value_within bound plain some few below found holds r reads =
+    let is : plain ≡ r ∷ [] = value_read plain some few found holds r r refl reads in
+    (subst (AllByRecursion (λ n. n < bound)) is below).0
+
+-- the first value is the one
+first_is : (matched : Option MatchedArg) (n : ℕ) → option_map raw_values matched ≡ Some (natural_text n ∷ [])
+    → option_and_then (λ (a : MatchedArg). option_map (λ s. s.now) (slice_get a.vals.items 0)) matched ≡ Some (natural_text n)
+first_is None n e = absurd (cc)
+first_is (Some a) n e = at a.vals.items (unwrapped e)
+  where
+    unwrapped : Some (raw_values a) ≡ Some (natural_text n ∷ []) → raw_values a ≡ natural_text n ∷ []
+    unwrapped e = cc
+
+    at : (vals : List (Bor (List ℕ))) → map (λ s. s.now) vals ≡ natural_text n ∷ [] → option_map (λ s. s.now) (slice_get vals 0) ≡ Some (natural_text n)
+    at [] e = absurd (cc)
+    at (v ∷ vals) e = ap Some (ap (λ (texts : List (List ℕ)). get_or texts 0 []) e)
+
+pub first_held : (n : ℕ) (found : Found) → HoldsPlain (n ∷ []) found → first_value found values_id ≡ Some (natural_text n)
+first_held n found holds = first_is (matched_of found values_id) n holds
+
+-- texts that are there are the same, and none is no text
+pub some_text : (text other : List ℕ) → Some text ≡ Some other → text ≡ other
+some_text text other e = cc
+
+pub none_text : (other : List ℕ) → ¬ (◌≡◌ {A = Option (List ℕ)} None (Some other))
+none_text other e = cc

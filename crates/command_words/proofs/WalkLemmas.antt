@@ -1,23 +1,23 @@
 -- How clap walks over the words of a line.
-use Rattle.std.proofs.Common.{◌≡◌, ◌∙◌, ◌&&◌, ◌||◌, ◌⊎◌, ◌<◌, ◌≤◌, ℕ, nat_lt, Bool, true, false, not, cond, List, [], ◌∷◌, ◌++◌, map, length, arith, codes, Option, Some, None, refl, ap, ap₂, sym, subst, inl, inr, append_assoc}
+use Rattle.std.proofs.Common.{◌≡◌, ◌∙◌, ◌&&◌, ◌||◌, ◌<◌, ◌≤◌, ℕ, nat_lt, Bool, true, false, cond, List, [], ◌∷◌, ◌++◌, map, length, arith, Option, Some, None, refl, ap, ap₂, sym, subst, inl, inr, append_assoc}
 use Rattle.std.specs.Prelude.{◌==◌}
 use Rattle.std.specs.List.{AllByRecursion, fold, flat_map}
 use Rattle.std.specs.Option.{option_map_or}
 use Rattle.std.specs.Str.{bytes_eq}
 use Rattle.std.proofs.lemmas.List.{append-nil}
-use Rattle.clap.specs.Lexer.{long_of, short_of}
-use Rattle.clap.specs.Walk.{value as plain_value, Held, Row, Rule, Step, Text, Waiting, idle, option, positional, Walk, after_flag, after_step, arg_by_id, arg_by_index, arg_by_long, has_row, long_met, long_or_other, nothing_held, plain_word, reacted, is_pending, pushed, settled, short_or_plain, started, pending_count, option_word, used_by_id, to_positional, trailing, used, walked, word_met}
+use Rattle.clap.specs.Lexer.{long_of}
+use Rattle.clap.specs.Walk.{value as plain_value, Held, Row, Rule, Step, Text, Waiting, idle, option, positional, Walk, after_flag, after_step, arg_by_id, arg_by_index, arg_by_long, has_row, long_met, long_or_other, nothing_held, plain_word, reacted, is_pending, pushed, settled, short_or_plain, started, pending_count, option_word, used_by_id, to_positional, trailing, used, walked}
 use Rattle.clap.specs.Simple.{Shape}
-use Rattle.clap.specs.Takes.{bundle_passes, flag_word_passes, long_passes, positional_passes, react_passes, settle_passes, step_passes, turn_passes, use_passes, walk_passes, word_passes}
+use Rattle.clap.specs.Takes.{bundle_passes, flag_word_passes, long_passes, positional_passes, react_passes, settle_passes, step_passes, turn_passes, use_passes, walk_passes}
 use Rattle.plane.specs.Spelling.{natural_text}
 use Rattle.command_words.specs.declared.rows.NumberBounds.{NumberBounds}
-use Rattle.command_words.specs.Lines.{OptionRow, CommandRow, Value, nothing, apart, joined, Given, words_with, given_words, Takes, IsGivenAs, IsGivenOf, AreDistinct, names_of}
+use Rattle.command_words.specs.Lines.{OptionRow, CommandRow, Value, nothing, apart, joined, Given, words_with, given_words, Takes, IsGivenOf, AreDistinct, names_of}
 use Rattle.command_words.specs.Fronts.{IsName, IsRow}
 use Rattle.command_words.specs.Parsers.{values_id, IsOption}
-use Rattle.command_words.proofs.GivenLemmas.{tail_text, more_words, opened, is_name}
+use Rattle.command_words.proofs.GivenLemmas.{opened, is_name}
 use Rattle.command_words.proofs.RuleLemmas.{full_with, full_option, full_rules, full_shape, full_values, by_id, by_long, values_by_id, values_by_place, same_bytes, other_bytes}
 use Rattle.command_words.proofs.WordLemmas.{long_alone, long_valued, no_escape, no_long, no_short, number_word}
-use Rattle.command_words.proofs.RowLemmas.{row_with, row_given, row_values, value_texts, kept_texts, used_option, option_use_passes, used_first, used_more, values_use_passes, has_row_more}
+use Rattle.command_words.proofs.RowLemmas.{row_with, row_given, row_values, value_texts, kept_texts, used_option, option_use_passes, used_first, used_more, has_row_more}
 
 -- where a walk stands between two words, of which none was `--`
 abbrev pub standing : Waiting → Held → Walk

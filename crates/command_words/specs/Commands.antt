@@ -1,9 +1,9 @@
 -- The commands, and the words that name them.
-use Rattle.std.specs.Prelude.{◌≡◌, ℕ, List, MatchOption, IsSomeAnd, ⊤}
-use Rattle.command_words.specs.Lines.{OptionRow, CommandRow, Given, IsLine, number_given}
-use Rattle.command_words.specs.Grammar.{check_row, base_row, region_row, path_row, plain_row, flips_option, limit_option}
+use Rattle.std.specs.Prelude.{◌≡◌, ℕ, List, [], ◌∷◌, MatchOption, IsSomeAnd, ⊤}
+use Rattle.command_words.specs.Lines.{OptionRow, CommandRow, Given, IsLine, number_given, is_given}
+use Rattle.command_words.specs.Grammar.{check_row, base_row, region_row, path_row, plain_row, make_row, trial_row, flips_option, limit_option, summary_option}
 use Rattle.command_words.specs.declared.command.Command.{Command}
-use Rattle.command_words.specs.declared.command.Command.TheVariants.{Check, Base, Region, Path, Plain}
+use Rattle.command_words.specs.declared.command.Command.TheVariants.{Check, Base, Region, Path, Plain, Make, Trial}
 
 -- the number of an option in a line: the one that it is given there, or else the one that stands unless it is given
 abbrev pub IsNumberOf : OptionRow → List Given → ℕ → Type 0
@@ -15,7 +15,9 @@ row_of_command Check = check_row
 row_of_command (Base flips) = base_row
 row_of_command (Region flips) = region_row
 row_of_command (Path flips choices) = path_row
-row_of_command (Plain flips limit) = plain_row
+row_of_command (Plain flips limit summary) = plain_row
+row_of_command (Make number) = make_row
+row_of_command (Trial flips limit number) = trial_row
 
 -- the options and the plain values of a line say what the command has
 abbrev pub AreRead : Command → List Given → List ℕ → Type 0
@@ -23,7 +25,11 @@ AreRead Check options plain = ⊤
 AreRead (Base flips) options plain = IsNumberOf flips_option options flips
 AreRead (Region flips) options plain = IsNumberOf flips_option options flips
 AreRead (Path flips choices) options plain = IsNumberOf flips_option options flips × (choices ≡ plain)
-AreRead (Plain flips limit) options plain = IsNumberOf flips_option options flips × IsNumberOf limit_option options limit
+AreRead (Plain flips limit summary) options plain =
+    IsNumberOf flips_option options flips × IsNumberOf limit_option options limit × (summary ≡ is_given summary_option.name options)
+AreRead (Make number) options plain = plain ≡ number ∷ []
+AreRead (Trial flips limit number) options plain =
+    IsNumberOf flips_option options flips × IsNumberOf limit_option options limit × (plain ≡ number ∷ [])
 
 -- the words of a command line name this command: they are a line of its row, and say what it has
 abbrev pub Names : List (List ℕ) → Command → Type 0

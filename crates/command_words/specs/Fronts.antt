@@ -4,7 +4,7 @@ use Rattle.std.specs.List.{AllByRecursion}
 use Rattle.plane.specs.Spelling.{natural_text}
 use Rattle.command_words.specs.declared.rows.NumberBounds.{NumberBounds}
 use Rattle.command_words.specs.declared.rows.PlainBounds.{PlainBounds}
-use Rattle.command_words.specs.Lines.{OptionRow, CommandRow, Value, nothing, apart, joined, Given, given_words, Takes, AreDistinct}
+use Rattle.command_words.specs.Lines.{CommandRow, Value, nothing, apart, joined, Given, given_words, Takes, AreDistinct}
 
 -- the word is a number within these bounds
 abbrev pub IsWithin : NumberBounds → List ℕ → Type 0

@@ -1,5 +1,5 @@
 -- The grammar of words, a row a command.
-use Rattle.std.specs.Prelude.{codes, [], ◌∷◌, Some}
+use Rattle.std.specs.Prelude.{codes, [], ◌∷◌, Some, None}
 use Rattle.command_words.specs.Lines.{OptionRow, CommandRow}
 use Rattle.command_words.specs.declared.rows.PlainBounds.{PlainBounds}
 
@@ -11,9 +11,17 @@ flips_option = record { name = codes "flips"; numbers = Some (record { least = 1
 abbrev pub limit_option : OptionRow
 limit_option = record { name = codes "limit"; numbers = Some (record { least = 1; most = 2048; unless_given = 1024 }) }
 
+-- a flag: the summary in place of the report
+abbrev pub summary_option : OptionRow
+summary_option = record { name = codes "summary"; numbers = None }
+
 -- no plain values
 abbrev pub no_plain : PlainBounds
 no_plain = record { fewest = 0; most = 0; below = 0 }
+
+-- the number of a surface: one number below 200
+abbrev pub one_number : PlainBounds
+one_number = record { fewest = 1; most = 1; below = 200 }
 
 -- `check`
 abbrev pub check_row : CommandRow
@@ -31,6 +39,14 @@ region_row = record { word = codes "region"; options = flips_option ∷ []; plai
 abbrev pub path_row : CommandRow
 path_row = record { word = codes "path"; options = flips_option ∷ []; plain = record { fewest = 0; most = 4096; below = 1000 } }
 
--- `plain [--flips N] [--limit K]`
+-- `plain [--flips N] [--limit K] [--summary]`
 abbrev pub plain_row : CommandRow
-plain_row = record { word = codes "plain"; options = flips_option ∷ limit_option ∷ []; plain = no_plain }
+plain_row = record { word = codes "plain"; options = flips_option ∷ limit_option ∷ summary_option ∷ []; plain = no_plain }
+
+-- `make N`
+abbrev pub make_row : CommandRow
+make_row = record { word = codes "make"; options = []; plain = one_number }
+
+-- `trial [--flips N] [--limit K] N`
+abbrev pub trial_row : CommandRow
+trial_row = record { word = codes "trial"; options = flips_option ∷ limit_option ∷ []; plain = one_number }

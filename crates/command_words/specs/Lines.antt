@@ -1,6 +1,6 @@
 -- The lines of words that a row of the grammar takes.
-use Rattle.std.specs.Prelude.{◌≡◌, ℕ, ◌<◌, ◌≤◌, ◌⊎◌, List, [], ◌∷◌, ◌++◌, map, length, codes, Option, Some, None, ⊤, if◌then◌else◌}
-use Rattle.std.specs.List.{flat_map, AllByRecursion}
+use Rattle.std.specs.Prelude.{◌≡◌, ℕ, Bool, ◌<◌, ◌≤◌, ◌⊎◌, List, [], ◌∷◌, ◌++◌, map, length, codes, Option, Some, None, ⊤, if◌then◌else◌}
+use Rattle.std.specs.List.{flat_map, AllByRecursion, list_any}
 use Rattle.std.specs.Str.{bytes_eq}
 use Rattle.plane.specs.Spelling.{natural_text}
 use Rattle.command_words.specs.declared.rows.NumberBounds.{NumberBounds}
@@ -88,3 +88,7 @@ number_with (joined n) = Some n
 abbrev pub number_given : List ℕ → List Given → Option ℕ
 number_given name [] = None
 number_given name (given ∷ options) = if bytes_eq given.name name then number_with given.value else number_given name options
+
+-- an option of this name is given
+abbrev pub is_given : List ℕ → List Given → Bool
+is_given name options = list_any (λ given. bytes_eq given.name name) options

@@ -1,8 +1,6 @@
 -- The clap command of a row, and what its matches hold of a line. No public contract cites this: it serves private clauses.
-use Rattle.std.specs.Prelude.{◌≡◌, ◌++◌, ◌⊎◌, ◌==◌, ℕ, Bool, true, false, List, [], ◌∷◌, map, codes, Option, Some, None, option_map, nat_lt, if◌then◌else◌, IsSome, IsNone, IfSome}
+use Rattle.std.specs.Prelude.{◌≡◌, ◌++◌, ◌⊎◌, ℕ, true, List, [], ◌∷◌, map, codes, Option, Some, None, option_map, nat_lt, if◌then◌else◌, IsSome, IsNone, IfSome}
 use Rattle.std.specs.Bool.{MatchBool}
-use Rattle.std.specs.List.{list_any}
-use Rattle.std.specs.Str.{bytes_eq}
 use Rattle.clap.specs.Walk.{Rule}
 use Rattle.clap.specs.Simple.{App, new_rule, new_shape}
 use Rattle.clap.specs.Matches.{first_value, one_text, matched_of, raw_values}
@@ -11,7 +9,7 @@ use Rattle.clap.specs.declared.parser.matches.Found.{Found}
 use Rattle.plane.specs.Spelling.{natural_text}
 use Rattle.command_words.specs.declared.rows.NumberBounds.{NumberBounds}
 use Rattle.command_words.specs.declared.rows.PlainBounds.{PlainBounds}
-use Rattle.command_words.specs.Lines.{OptionRow, CommandRow, Given, number_given}
+use Rattle.command_words.specs.Lines.{OptionRow, CommandRow, Given, number_given, is_given}
 
 -- the argument of an option: a flag, or one with a value
 abbrev pub option_rule_with : List ℕ → Option NumberBounds → Rule
@@ -45,10 +43,6 @@ parser_of row = parser_with row.word (map option_rule row.options ++ values_rule
 abbrev pub IsOption : List OptionRow → OptionRow → Type 0
 IsOption [] option = ⊥
 IsOption (first ∷ options) option = (first ≡ option) ⊎ IsOption options option
-
--- an option of this name is given
-abbrev pub is_given : List ℕ → List Given → Bool
-is_given name options = list_any (λ given. bytes_eq given.name name) options
 
 -- the text of some plain values, where there are any
 abbrev pub values_text : List ℕ → Option (List (List ℕ))

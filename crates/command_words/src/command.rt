@@ -2,14 +2,14 @@
 
 ghost use Rattle.std.specs.Prelude.{◌≡◌, map, string_bytes, MatchOption, IfOk};
 ghost use Rattle.command_words.specs.Lines.{IsTaken};
-ghost use Rattle.command_words.specs.Grammar.{check_row, base_row, region_row, path_row, plain_row};
+ghost use Rattle.command_words.specs.Grammar.{check_row, base_row, region_row, path_row, plain_row, make_row, trial_row};
 ghost use Rattle.command_words.specs.Commands.{Names, AreTaken};
 
-use super::grammar::{BASE, CHECK, FLIPS, LIMIT, PATH, PLAIN, REGION};
+use super::grammar::{BASE, CHECK, FLIPS, LIMIT, MAKE, PATH, PLAIN, REGION, SUMMARY, TRIAL};
 use super::lines::is_line;
 use super::parsing::parse;
-use super::values::{choices_of, number_of};
-use super::{Choices, ClassLimit, WordList};
+use super::values::{choices_of, is_set, number_of, value_of};
+use super::{Choices, ClassLimit, FamilyNumber, WordList};
 use std::alloc::{AllocError, Global};
 
 /// A command with what its words say.
@@ -18,13 +18,34 @@ pub enum Command {
     /// The counts of the file's triangulation.
     Check,
     /// The base of the file's triangulation, reached by at most so many flips.
-    Base { flips: u32 },
+    Base {
+        flips: u32,
+    },
     /// The walls and corners of the region of that base.
-    Region { flips: u32 },
+    Region {
+        flips: u32,
+    },
     /// The end of a walk from that base through the walls that are chosen.
-    Path { flips: u32, choices: Choices },
-    /// The classes that crossings reach from that base, where they are no more than the limit.
-    Plain { flips: u32, limit: ClassLimit },
+    Path {
+        flips: u32,
+        choices: Choices,
+    },
+    /// The classes that crossings reach from that base, where they are no more than the limit, or their summary.
+    Plain {
+        flips: u32,
+        limit: ClassLimit,
+        summary: bool,
+    },
+    /// The file of a surface of the families.
+    Make {
+        number: FamilyNumber,
+    },
+    /// The summary of the classes of that surface, where they are no more than the limit.
+    Trial {
+        flips: u32,
+        limit: ClassLimit,
+        number: FamilyNumber,
+    },
 }
 
 /// The command that the words name: none exactly where they aren't in the grammar.
@@ -49,6 +70,12 @@ pub fn read_command(alloc: Global, words: &WordList) -> Result<Option<Command>, 
     }
     if is_line(&PLAIN, words) {
         return Ok(Some(plain(alloc, words)?));
+    }
+    if is_line(&MAKE, words) {
+        return Ok(Some(make(alloc, words)?));
+    }
+    if is_line(&TRIAL, words) {
+        return Ok(Some(trial(alloc, words)?));
     }
     Ok(None)
 }
@@ -101,8 +128,38 @@ fn plain(alloc: Global, words: &[String]) -> Result<Command, AllocError>
     let matches = parse(alloc, &PLAIN, words)?;
     let flips = number_of(&matches, &FLIPS);
     let limit = number_of(&matches, &LIMIT);
+    let summary = is_set(&matches, &SUMMARY);
     Ok(Command::Plain {
         flips,
         limit: ClassLimit::new(limit),
+        summary,
+    })
+}
+
+/// The command of a line of `make`.
+fn make(alloc: Global, words: &[String]) -> Result<Command, AllocError>
+    requires { IsTaken make_row (map string_bytes words.now) }
+    ensures { IfOk result (Names (map string_bytes words.now)) }
+{
+    let matches = parse(alloc, &MAKE, words)?;
+    let number = value_of(&matches);
+    Ok(Command::Make {
+        number: FamilyNumber::new(number),
+    })
+}
+
+/// The command of a line of `trial`.
+fn trial(alloc: Global, words: &[String]) -> Result<Command, AllocError>
+    requires { IsTaken trial_row (map string_bytes words.now) }
+    ensures { IfOk result (Names (map string_bytes words.now)) }
+{
+    let matches = parse(alloc, &TRIAL, words)?;
+    let flips = number_of(&matches, &FLIPS);
+    let limit = number_of(&matches, &LIMIT);
+    let number = value_of(&matches);
+    Ok(Command::Trial {
+        flips,
+        limit: ClassLimit::new(limit),
+        number: FamilyNumber::new(number),
     })
 }

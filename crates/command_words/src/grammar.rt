@@ -22,11 +22,24 @@ pub(crate) const LIMIT: OptionRow = OptionRow {
     }),
 };
 
+/// A flag: the summary is printed in place of the report.
+pub(crate) const SUMMARY: OptionRow = OptionRow {
+    name: "summary",
+    numbers: None,
+};
+
 /// No plain values.
 const NO_PLAIN: PlainBounds = PlainBounds {
     fewest: 0,
     most: 0,
     below: 0,
+};
+
+/// The number of a surface.
+const ONE_NUMBER: PlainBounds = PlainBounds {
+    fewest: 1,
+    most: 1,
+    below: 200,
 };
 
 /// `check`.
@@ -61,9 +74,23 @@ pub(crate) const PATH: CommandRow = CommandRow {
     },
 };
 
-/// `plain [--flips N] [--limit K]`.
+/// `plain [--flips N] [--limit K] [--summary]`.
 pub(crate) const PLAIN: CommandRow = CommandRow {
     word: "plain",
-    options: &[FLIPS, LIMIT],
+    options: &[FLIPS, LIMIT, SUMMARY],
     plain: NO_PLAIN,
+};
+
+/// `make N`.
+pub(crate) const MAKE: CommandRow = CommandRow {
+    word: "make",
+    options: &[],
+    plain: ONE_NUMBER,
+};
+
+/// `trial [--flips N] [--limit K] N`.
+pub(crate) const TRIAL: CommandRow = CommandRow {
+    word: "trial",
+    options: &[FLIPS, LIMIT],
+    plain: ONE_NUMBER,
 };

@@ -5,6 +5,7 @@
 mod choices;
 mod class_limit;
 mod command;
+mod family_number;
 mod fronts;
 mod grammar;
 pub mod laws;
@@ -17,4 +18,5 @@ mod words;
 pub use choices::Choices;
 pub use class_limit::ClassLimit;
 pub use command::{Command, read_command};
+pub use family_number::FamilyNumber;
 pub use words::WordList;

@@ -1,8 +1,8 @@
 //! What the matches of a line hold.
 
-ghost use Rattle.std.specs.Prelude.{◌≡◌, ℕ, List, ◌^◌, ◌<◌, ◌≤◌, length, IsSome, IsSomeAnd, IfSome, IfOk, MatchOption, map};
+ghost use Rattle.std.specs.Prelude.{◌≡◌, ℕ, List, [], ◌∷◌, ◌^◌, ◌<◌, ◌≤◌, length, codes, true, false, Some, IsSome, IsSomeAnd, IfSome, IfOk, MatchOption, map};
 ghost use Rattle.std.specs.List.{AllByRecursion};
-ghost use Rattle.clap.specs.Matches.{first_value, found_of};
+ghost use Rattle.clap.specs.Matches.{first_value, one_text, found_of};
 ghost use Rattle.plane.specs.Spelling.{natural_text};
 ghost use Rattle.command_words.specs.Parsers.{HoldsPlain};
 
@@ -36,6 +36,25 @@ fn number_in(word: &str) -> u32
         NaturalWord::Value(n) => n as u32,
         NaturalWord::Large => unreachable!(),
         NaturalWord::Not => unreachable!(),
+    }
+}
+
+/// Whether a flag is given.
+pub(crate) fn is_set(matches: &ArgMatches<'_>, option: &OptionRow) -> bool
+    ensures given { one_text (found_of matches.now) option.now.name.now ≡ Some (codes "true") → result ≡ true }
+    ensures not_given { IfSome (one_text (found_of matches.now) option.now.name.now) (λ text. text ≡ codes "false") → result ≡ false }
+{
+    matches.get_flag(option.name)
+}
+
+/// The one plain value of the matches.
+pub(crate) fn value_of(matches: &ArgMatches<'_>) -> u32
+    requires { (n : ℕ) × (n < 2 ^ 32) × HoldsPlain (n ∷ []) (found_of matches.now) }
+    ensures { (n : ℕ) → HoldsPlain (n ∷ []) (found_of matches.now) → result ≡ n }
+{
+    match matches.get_str(VALUES) {
+        Some(word) => number_in(word),
+        None => unreachable!(),
     }
 }
 

@@ -1,4 +1,4 @@
-use Rattle.std.proofs.Common.{map, string_bytes, refl, inl, arith}
+use Rattle.std.proofs.Common.{refl, inl, arith}
 use Rattle.command_words.specs.Grammar.{base_row, flips_option}
 use Rattle.command_words.proofs.ValueLemmas.{number_held, number_read}
 use Rattle.command_words.proofs.command.base.Goals as goal

@@ -1,4 +1,4 @@
-use Rattle.std.proofs.Common.{◌≡◌, ◌∙◌, true, map, length, string_bytes, refl, sym, subst, arith, true≢false}
+use Rattle.std.proofs.Common.{◌≡◌, ◌∙◌, true, map, string_bytes, refl, sym, subst, arith, true≢false}
 use Rattle.std.proofs.lemmas.List.{length-map}
 use Rattle.command_words.specs.Fronts.{IsBelow}
 use Rattle.command_words.proofs.LineLemmas.{plain_words, plain_below, not_below, below_to_end}

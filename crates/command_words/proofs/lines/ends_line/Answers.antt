@@ -1,4 +1,4 @@
-use Rattle.std.proofs.Common.{◌≡◌, ◌≤◌, ◌+◌, ◌∙◌, length, map, drop, string_bytes, refl, sym, subst, arith, true≢false}
+use Rattle.std.proofs.Common.{◌≡◌, ◌∙◌, map, drop, string_bytes, sym, subst, arith, true≢false}
 use Rattle.std.proofs.lemmas.List.{length-drop, length-map}
 use Rattle.command_words.specs.Lines.{Given, IsGivenOf}
 use Rattle.command_words.specs.Rows.{row_of}

@@ -1,4 +1,4 @@
-use Rattle.std.proofs.Common.{◌≡◌, ◌↔◌, ◌∙◌, true, false, length, subst, sym, ap, is_some, IsTrue}
+use Rattle.std.proofs.Common.{◌≡◌, ◌↔◌, true, false, length, subst, sym, IsTrue}
 use Rattle.std.specs.Prelude.{◌==◌}
 use Rattle.command_words.specs.Fronts.{EndsName}
 use Rattle.command_words.proofs.GivenLemmas.{name_ended}
