@@ -7,3 +7,4 @@ pub mod GluedSquares
 pub mod Octagonal
 pub mod Surfaces
 pub mod MadeFiles
+pub mod CallerLemmas

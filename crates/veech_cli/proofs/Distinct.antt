@@ -1,5 +1,5 @@
 -- Elements of a list, each once: there are no more of them than of a list that has them all.
-use Rattle.std.proofs.Common.{◌≡◌, ◌∙◌, ℕ, suc, ◌<◌, List, length, refl, sym, subst, arith, Option, Some, None}
+use Rattle.std.proofs.Common.{◌≡◌, ◌∙◌, ℕ, ◌<◌, List, length, refl, sym, subst, arith, Option, Some, None}
 use Rattle.std.specs.Prelude.{slice_get}
 use Rattle.rings.proofs.Pigeonhole.{repeats}
 use Rattle.terrain.specs.Places.{IsAt}

@@ -1,6 +1,6 @@
 -- What an exploration of the classes from a base's code says of the codes that are reached from the base.
 use Rattle.std.proofs.Common.{◌≡◌, ℕ, ◌<◌, ◌≤◌, ◌⊎◌, inl, inr, List, length, map, sym, subst}
-use Rattle.std.specs.Prelude.{◌↔◌, ℤ, Option, Some, None}
+use Rattle.std.specs.Prelude.{◌↔◌, ℤ, Option}
 use Rattle.std.specs.List.{Contains}
 use Rattle.std.specs.Ordering.{int_cmp}
 use Rattle.std.specs.Cmp.Lexicographic.{slice_cmp}
@@ -10,7 +10,6 @@ use Rattle.plane.specs.Matrices.{FieldMatrix}
 use Rattle.tri_core.specs.declared.half.Half.{Half}
 use Rattle.tri_core.specs.Triangulation.{IsTriangulation}
 use Rattle.canon_code.specs.Codes.{IsCode}
-use Rattle.canon_code.specs.Canonical.{canonical}
 use Rattle.terrain.specs.declared.graph.Lead.{Lead}
 use Rattle.terrain.specs.Graphs.{IsGraph}
 use Rattle.terrain.specs.Causes.{MoreAreReached, IsStuckWithin}
@@ -18,7 +17,7 @@ use Rattle.class_node.specs.declared.fault.ClassFault.{ClassFault}
 use Rattle.class_node.specs.Classes.{field_numbers, field_of, HasWalls}
 use Rattle.class_node.specs.Leads.{LeadsBy}
 use Rattle.class_node.specs.Reached.{IsReachedCode, IsReachedKey, IsRootOf}
-use Rattle.class_node.specs.Stuck.{IsWideAt, IsStuckOver, IsStuck, IsStuckAt}
+use Rattle.class_node.specs.Stuck.{IsStuckOver, IsStuck, IsStuckAt}
 use Rattle.veech_cli.specs.Classes.{AreClassesWithin, MoreAreReachedCodes, IsWideAtClass}
 
 -- the law that reached keys are reached codes

@@ -1,7 +1,6 @@
 -- What the quotients of a base's graph ask for, and the turns of its classes.
-use Rattle.std.proofs.Common.{◌≡◌, ℕ, zero, suc, ◌+◌, ◌<◌, ◌≤◌, inl, inr, List, [], ◌∷◌, ◌++◌, length, map, get_or, refl, ap, ◌∙◌, sym, subst, arith, Option, None, Some}
-use Rattle.std.specs.Prelude.{ℤ, ◌⊎◌}
-use Rattle.std.specs.List.{Contains}
+use Rattle.std.proofs.Common.{◌≡◌, ℕ, zero, suc, ◌+◌, ◌<◌, ◌≤◌, inl, inr, List, [], ◌∷◌, ◌++◌, length, map, get_or, refl, ap, ◌∙◌, sym, subst, arith, None, Some}
+use Rattle.std.specs.Prelude.{ℤ}
 use Rattle.std.proofs.lemmas.List.{length-append, map-append}
 use Rattle.std.proofs.lemmas.Option.{slice_get-get_or, get_or_from_slice_get}
 use mathlib.Core.Logic.{∥∥₁_map}
@@ -17,12 +16,11 @@ use Rattle.tri_core.specs.Triangulation.{IsTriangulation}
 use Rattle.parabola_region.specs.WallLists.{PlainWall}
 use Rattle.terrain.specs.declared.graph.Lead.{Lead}
 use Rattle.terrain.specs.Places.{IsAt}
-use Rattle.terrain.proofs.CallerLemmas.{at_within, at_snoc, at_one, read, snoc_end}
+use Rattle.terrain.proofs.CallerLemmas.{at_within, at_snoc, at_one, read}
 use Rattle.canon_code.specs.Canonical.{canonical}
-use Rattle.canon_code.specs.FrameWidth.{HasWideFrame}
 use Rattle.class_node.specs.Classes.{field_numbers, IsClassOver, AreWallsOf, HasWalls}
 use Rattle.class_node.specs.Leads.{AreFrames}
-use Rattle.class_node.specs.Reached.{IsReachedCode, IsRootOf}
+use Rattle.class_node.specs.Reached.{IsRootOf}
 use Rattle.quotient.specs.Trees.{row_at, HasLead, IsReachedFrom, IsTree}
 use Rattle.quotient.specs.Quotients.{AreQuotients}
 use Rattle.quotient.specs.Width.{IsWideIn}
@@ -30,8 +28,6 @@ use Rattle.returning.specs.Returning.{IsMatrix}
 use Rattle.returning.specs.Turns.{AreTurns}
 use Rattle.returning.proofs.CallerLemmas.{root_known, place_reached, lead_inside, lead_matrix, first_matrix, turn_matrix}
 use Rattle.answer_text.specs.declared.status.Status.{Status}
-use Rattle.answer_text.specs.declared.status.Status.TheVariants.{TooWide, Memory}
-use Rattle.answer_text.specs.declared.place.Place.TheVariants as places
 use Rattle.veech_cli.specs.Classes.{AreClassesWithin}
 use Rattle.veech_cli.specs.Groups.{IsGraphOf, AreMatricesOf, IsWideInMatrices}
 use Rattle.veech_cli.specs.Surfaces.{RefusesClasses, RefusesTurns, RefusesTurnsOf}

@@ -5,14 +5,13 @@ use Rattle.std.specs.Prelude.{◌<◌, ◌⊎◌, ℤ, Some}
 use Rattle.std.proofs.lemmas.Bool.{cases_order}
 use Rattle.std.proofs.lemmas.Option.{slice_get-get_or}
 use Rattle.surface_text.specs.Spelling.{Content, text}
-use Rattle.surface_text.specs.Limits.{IsBasePoint}
+use Rattle.surface_text.specs.Limits.{IsBasePoint, IsWithinLimits}
 use Rattle.surface_text.specs.declared.file.Point.{Point}
 use Rattle.surface_text.proofs.CallerLemmas as texts
 use Rattle.tri_core.specs.declared.half.Half.{Half}
 use Rattle.gluing.specs.Gluings.{IsGluing, gluing_of}
 use Rattle.gluing.specs.Refusals.{IsRefused as IsGluingRefused}
 use Rattle.gluing.proofs.CallerLemmas as gluing
-use Rattle.ear_cut.specs.Cuttings.{IsEarCutting}
 use Rattle.ear_cut.proofs.CallerLemmas.{one_cutting, triangulation}
 use Rattle.delaunay_flip.specs.Points.{standard_points}
 use Rattle.delaunay_flip.specs.Bases.{Ending, EndsListed}
@@ -28,10 +27,12 @@ use Rattle.answer_text.specs.declared.status.Status.TheVariants.{Done, File, Too
 use Rattle.answer_text.specs.declared.place.Place.TheVariants as places
 use Rattle.answer_text.specs.declared.no_cause.NoCause.TheVariants.{Wall}
 use Rattle.command_words.specs.declared.command.Command.{Command}
-use Rattle.command_words.specs.declared.command.Command.TheVariants.{Check, Base, Region, Path, Plain}
+use Rattle.command_words.specs.declared.command.Command.TheVariants.{Check, Base, Region, Path, Plain, Make, Trial}
 use Rattle.veech_cli.specs.SurfaceFiles.{IsTextOf, IsAccepted, IsTriangulationOf, IsRefused, too_long, text_refused, not_glued}
 use Rattle.veech_cli.specs.Endings.{or_standard, points_of, status_of_ending}
-use Rattle.veech_cli.specs.Owed.{Answers, AnswersAt, AnswersFromBase, IsRegionAnswer, IsPathAnswer, IsPlainAnswer, Owes, IsOptional}
+use Rattle.family_gen.proofs.CallerLemmas as families
+use Rattle.veech_cli.specs.Writings.{Writing, trial_text, plain_text}
+use Rattle.veech_cli.specs.Owed.{Answers, AnswersAt, AnswersFromBase, OnTriangulation, IsRegionAnswer, IsPathAnswer, IsBaseAnswer, IsPlainAnswer, ReadsInput, WorksOn, Owes, IsOptional}
 use Rattle.veech_cli.specs.Classes.{AreClassesWithin, MoreAreReachedCodes}
 use Rattle.veech_cli.proofs.Listed.{listed_valid}
 use Rattle.veech_cli.proofs.Distinct.{no_more}
@@ -182,12 +183,12 @@ IsKind d limit halves status =
     ⊎ ((codes : List (List ℤ)) × AreClassesWithin d halves limit codes × (status ≡ Done))
     ⊎ (MoreAreReachedCodes d halves limit × (status ≡ LimitPassed limit))
 
-kind_of : (d limit : ℕ) (at : Point) (halves : List Half) (status : Status) (text : List ℕ) → IsPlainAnswer d limit at halves status text → IsKind d limit halves status
-kind_of d limit at halves status text (inl a) = inr (inl (a.0, a.2, a.4))
-kind_of d limit at halves status text (inr (inl a)) = inl (inl (F1, a.1))
-kind_of d limit at halves status text (inr (inr (inl a))) = inl (inr (inl (a.0, a.1, a.2, a.5)))
-kind_of d limit at halves status text (inr (inr (inr (inl a)))) = inl (inr (inr (inl (a.0, a.2))))
-kind_of d limit at halves status text (inr (inr (inr (inr a)))) = inr (inr (a.0, a.1))
+kind_of : (writing : Writing) (d limit : ℕ) (at : Point) (halves : List Half) (status : Status) (text : List ℕ) → IsPlainAnswer writing d limit at halves status text → IsKind d limit halves status
+kind_of writing d limit at halves status text (inl a) = inr (inl (a.0, a.2, a.4))
+kind_of writing d limit at halves status text (inr (inl a)) = inl (inl (F1, a.1))
+kind_of writing d limit at halves status text (inr (inr (inl a))) = inl (inr (inl (a.0, a.1, a.2, a.5)))
+kind_of writing d limit at halves status text (inr (inr (inr (inl a)))) = inl (inr (inr (inl (a.0, a.2))))
+kind_of writing d limit at halves status text (inr (inr (inr (inr a)))) = inr (inr (a.0, a.1))
 
 one_kind : (d limit : ℕ) (halves : List Half) (status other : Status) → IsKind d limit halves status → IsKind d limit halves other → AreAlike status other
 one_kind d limit halves status other (inl a) b = inr (inl a)
@@ -197,9 +198,9 @@ one_kind d limit halves status other (inr (inl a)) (inr (inr b)) = absurd (not_m
 one_kind d limit halves status other (inr (inr a)) (inr (inl b)) = absurd (not_more d halves limit b.0 b.1 a.0)
 one_kind d limit halves status other (inr (inr a)) (inr (inr b)) = inl (a.1 ∙ sym b.1)
 
-plain_once : (d limit : ℕ) (at : Point) (halves : List Half) → IsOnce (IsPlainAnswer d limit at) halves
-plain_once d limit at halves status other text line a b =
-    one_kind d limit halves status other (kind_of d limit at halves status text a) (kind_of d limit at halves other line b)
+plain_once : (writing : Writing) (d limit : ℕ) (at : Point) (halves : List Half) → IsOnce (IsPlainAnswer writing d limit at) halves
+plain_once writing d limit at halves status other text line a b =
+    one_kind d limit halves status other (kind_of writing d limit at halves status text a) (kind_of writing d limit at halves other line b)
 
 -- for one ending a command that wants a base answers one status, where it does for the base
 ending_once : (P : Point → List Half → Status → List ℕ → Type 0) (at : Point) (ending : Ending) → ((later : List Half) (n : ℕ) → ending ≡ Ending.strict later n → IsOnce (P at) later)
@@ -209,50 +210,104 @@ ending_once P at (Ending.not_strict h) once status other text line a b = inl (a.
 ending_once P at Ending.flips_ended once status other text line a b = inl (a.0 ∙ sym b.0)
 ending_once P at (Ending.wide formula n h) once status other text line a b = inl (a.0 ∙ sym b.0)
 
-module _ (input : List ℕ) (file : Content) (halves : List Half) (accepted : IsAccepted input file) (t : IsTriangulationOf file halves) (flips : ℕ) where
+module _ (file : Content) (limits : IsWithinLimits file) (glued : IsGluing (gluing_of file)) (halves : List Half) (t : IsTriangulationOf file halves) (flips : ℕ) where
   valid_file : IsTriangulation file.field halves
-  valid_file = triangulation (gluing_of file) accepted.glued halves t
+  valid_file = triangulation (gluing_of file) glued halves t
 
   inside : AllByRecursion IsBasePoint (points_of file)
-  inside = points_within file.bases accepted.text_of.limits.bases
+  inside = points_within file.bases limits.bases
 
   base_once : (P : Point → List Half → Status → List ℕ → Type 0) → ((at : Point) (later : List Half) → IsTriangulation file.field later → IsOnce (P at) later)
       → (status other : Status) (text line : List ℕ) → AnswersFromBase flips P file halves status text → AnswersFromBase flips P file halves other line → AreAlike status other
   base_once P once status other text line a b =
-      let same = one_listed file.field accepted.text_of.limits.field halves valid_file (points_of file) inside flips a.0 b.0 a.1 b.1 a.2 b.2 in
+      let same = one_listed file.field limits.field halves valid_file (points_of file) inside flips a.0 b.0 a.1 b.1 a.2 b.2 in
       ending_once P b.0 b.1
-      (λ later n is. once b.0 later (listed_valid file.field accepted.text_of.limits.field halves valid_file (points_of file) inside flips b.0 later n
+      (λ later n is. once b.0 later (listed_valid file.field limits.field halves valid_file (points_of file) inside flips b.0 later n
       (subst (λ (e : Ending). EndsListed file.field halves (points_of file) flips b.0 e) is b.2)))
       status other text line
       (subst (λ (e : Ending). AnswersAt P b.0 e status text) same.1 (subst (λ (p : Point). AnswersAt P p a.1 status text) same.0 a.3)) b.3
 
--- for one triangulation a command answers one status
-one_for : (command : Command) (input : List ℕ) (file : Content) (halves : List Half) → IsAccepted input file → IsTriangulationOf file halves
-    → (status other : Status) (text line : List ℕ) → Answers command file halves status text → Answers command file halves other line → AreAlike status other
-one_for Check input file halves accepted t status other text line a b = inl (a.4 ∙ sym b.4)
-one_for (Base flips) input file halves accepted t status other text line a b =
-    let valid = triangulation (gluing_of file) accepted.glued halves t in
-    let same = one_listed file.field accepted.text_of.limits.field halves valid (points_of file) (points_within file.bases accepted.text_of.limits.bases) flips a.0 b.0 a.1 b.1 a.2 b.2 in
-    inl (a.3 ∙ (λ i. status_of_ending (same.0 i) (same.1 i)) ∙ sym b.3)
-one_for (Region flips) input file halves accepted t status other text line a b =
-    base_once input file halves accepted t flips (λ at. IsRegionAnswer file.field) (λ at later valid. region_once file.field later) status other text line a b
-one_for (Path flips choices) input file halves accepted t status other text line a b =
-    base_once input file halves accepted t flips (λ at. IsPathAnswer file.field choices) (λ at later valid. path_once file.field accepted.text_of.limits.field choices later valid) status other text line a b
-one_for (Plain flips limit) input file halves accepted t status other text line a b =
-    base_once input file halves accepted t flips (IsPlainAnswer file.field limit) (λ at later valid. plain_once file.field limit at later) status other text line a b
+-- a file has one triangulation, so what is answered for it is answered once where it is for each
+module _ (file : Content) (limits : IsWithinLimits file) (glued : IsGluing (gluing_of file)) where
+  pub on_one : (P Q : Content → List Half → Status → List ℕ → Type 0) (status other : Status) (text line : List ℕ) → OnTriangulation P file status text → OnTriangulation Q file other line
+      → (halves : List Half) × IsTriangulationOf file halves × P file halves status text × Q file halves other line
+  on_one P Q status other text line a b =
+      (b.0, b.1, subst (λ (halves : List Half). P file halves status text) (one_cutting (gluing_of file) glued a.0 b.0 a.1 b.1) a.2, b.2)
+
+  on_once : (P : Content → List Half → Status → List ℕ → Type 0) → ((halves : List Half) → IsTriangulationOf file halves → IsOnce (P file) halves)
+      → (status other : Status) (text line : List ℕ) → OnTriangulation P file status text → OnTriangulation P file other line → AreAlike status other
+  on_once P once status other text line a b =
+      let both = on_one P P status other text line a b in once both.0 both.1 status other text line both.2 both.3
+
+  -- for the file that it works on a command answers one status
+  one_for : (command : Command) (status other : Status) (text line : List ℕ) → Answers command file status text → Answers command file other line → AreAlike status other
+  one_for Check status other text line a b = inl (a.2.4 ∙ sym b.2.4)
+  one_for (Base flips) status other text line a b =
+      on_once (IsBaseAnswer flips)
+      (λ halves t status other text line a b.
+      let same =
+      one_listed file.field limits.field halves (valid_file file limits glued halves t flips) (points_of file) (inside file limits glued halves t flips) flips a.0 b.0 a.1 b.1 a.2 b.2 in
+      inl (a.3 ∙ (λ i. status_of_ending (same.0 i) (same.1 i)) ∙ sym b.3))
+      status other text line a b
+  one_for (Region flips) status other text line a b =
+      on_once (AnswersFromBase flips (λ at. IsRegionAnswer file.field))
+      (λ halves t. base_once file limits glued halves t flips (λ at. IsRegionAnswer file.field) (λ at later valid. region_once file.field later)) status other text line a b
+  one_for (Path flips choices) status other text line a b =
+      on_once (AnswersFromBase flips (λ at. IsPathAnswer file.field choices))
+      (λ halves t. base_once file limits glued halves t flips (λ at. IsPathAnswer file.field choices) (λ at later valid. path_once file.field limits.field choices later valid)) status other text line a b
+  one_for (Plain flips limit summary) status other text line a b =
+      on_once (AnswersFromBase flips (IsPlainAnswer (plain_text summary) file.field limit))
+      (λ halves t. base_once file limits glued halves t flips (IsPlainAnswer (plain_text summary) file.field limit) (λ at later valid. plain_once (plain_text summary) file.field limit at later)) status other text line a b
+  one_for (Make number) status other text line a b = inl (a.0 ∙ sym b.0)
+  one_for (Trial flips limit number) status other text line a b =
+      on_once (AnswersFromBase flips (IsPlainAnswer (trial_text number) file.field limit))
+      (λ halves t. base_once file limits glued halves t flips (IsPlainAnswer (trial_text number) file.field limit) (λ at later valid. plain_once (trial_text number) file.field limit at later)) status other text line a b
+
+-- the file that a command works on is a surface
+pub works_within : (command : Command) (input : List ℕ) (file : Content) → WorksOn command input file → IsWithinLimits file
+works_within Check input file works = works.text_of.limits
+works_within (Base flips) input file works = works.text_of.limits
+works_within (Region flips) input file works = works.text_of.limits
+works_within (Path flips choices) input file works = works.text_of.limits
+works_within (Plain flips limit summary) input file works = works.text_of.limits
+works_within (Make number) input file works = subst IsWithinLimits (sym works.1) (families.within_limits number works.0)
+works_within (Trial flips limit number) input file works = subst IsWithinLimits (sym works.1) (families.within_limits number works.0)
+
+pub works_glued : (command : Command) (input : List ℕ) (file : Content) → WorksOn command input file → IsGluing (gluing_of file)
+works_glued Check input file works = works.glued
+works_glued (Base flips) input file works = works.glued
+works_glued (Region flips) input file works = works.glued
+works_glued (Path flips choices) input file works = works.glued
+works_glued (Plain flips limit summary) input file works = works.glued
+works_glued (Make number) input file works = subst (λ (f : Content). IsGluing (gluing_of f)) (sym works.1) (families.glued number works.0)
+works_glued (Trial flips limit number) input file works = subst (λ (f : Content). IsGluing (gluing_of f)) (sym works.1) (families.glued number works.0)
+
+-- and it is one
+pub one_work : (command : Command) (input : List ℕ) (file other : Content) → WorksOn command input file → WorksOn command input other → file ≡ other
+one_work Check input file other a b = one_file input file other a b
+one_work (Base flips) input file other a b = one_file input file other a b
+one_work (Region flips) input file other a b = one_file input file other a b
+one_work (Path flips choices) input file other a b = one_file input file other a b
+one_work (Plain flips limit summary) input file other a b = one_file input file other a b
+one_work (Make number) input file other a b = a.1 ∙ sym b.1
+one_work (Trial flips limit number) input file other a b = a.1 ∙ sym b.1
+
+-- a command that reads the input works on the file that it is accepted as
+works_accepted : (command : Command) (input : List ℕ) (file : Content) → ReadsInput command → WorksOn command input file → IsAccepted input file
+works_accepted Check input file reads works = works
+works_accepted (Base flips) input file reads works = works
+works_accepted (Region flips) input file reads works = works
+works_accepted (Path flips choices) input file reads works = works
+works_accepted (Plain flips limit summary) input file reads works = works
+works_accepted (Make number) input file reads works = absurd reads
+works_accepted (Trial flips limit number) input file reads works = absurd reads
 
 pub one_answer : (command : Command) (input : List ℕ) (status other : Status) (text line : List ℕ) → Owes command input status text → Owes command input other line
     → (status ≡ other) ⊎ (IsOptional status ⊎ IsOptional other)
 one_answer command input status other text line (inl a) (inl b) =
-    let same = one_refusal input a.0 b.0 a.1 b.1 a.2 b.2 in inl (a.3 ∙ (λ i. File (same.0 i) (same.1 i)) ∙ sym b.3)
-one_answer command input status other text line (inl a) (inr b) = absurd (not_both input b.0 a.0 a.1 b.2 a.2)
-one_answer command input status other text line (inr a) (inl b) = absurd (not_both input a.0 b.0 b.1 a.2 b.2)
+    let same = one_refusal input a.0 b.0 a.1 b.1 a.3 b.3 in inl (a.4 ∙ (λ i. File (same.0 i) (same.1 i)) ∙ sym b.4)
+one_answer command input status other text line (inl a) (inr b) = absurd (not_both input b.0 a.0 a.1 (works_accepted command input b.0 a.2 b.1) a.3)
+one_answer command input status other text line (inr a) (inl b) = absurd (not_both input a.0 b.0 b.1 (works_accepted command input a.0 b.2 a.1) b.3)
 one_answer command input status other text line (inr a) (inr b) =
-    one_for command input b.0 b.1 b.2 b.3 status other text line
-    (subst (λ halves. Answers command b.0 halves status text) cut (subst (λ file. Answers command file a.1 status text) same a.4)) b.4
-  where
-    same : a.0 ≡ b.0
-    same = one_file input a.0 b.0 a.2 b.2
-
-    cut : a.1 ≡ b.1
-    cut = one_cutting (gluing_of b.0) b.2.glued a.1 b.1 (subst (λ f. IsEarCutting (gluing_of f) a.1) same a.3) b.3
+    one_for b.0 (works_within command input b.0 b.1) (works_glued command input b.0 b.1) command status other text line
+    (subst (λ (file : Content). Answers command file status text) (one_work command input a.0 b.0 a.1 b.1) a.2) b.2

@@ -7,6 +7,7 @@ mod OneGraph
 mod Inputs
 mod Reported
 mod Settling
+mod Unread
 mod Based
 mod Closed
 mod Numbers

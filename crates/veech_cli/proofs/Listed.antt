@@ -1,5 +1,5 @@
 -- A list of base points: the point of its ending, and the triangulation of a strict one.
-use Rattle.std.proofs.Common.{◌≡◌, ℕ, inl, inr, List, [], ◌∷◌, sym, subst}
+use Rattle.std.proofs.Common.{ℕ, inl, inr, List, [], ◌∷◌, sym, subst}
 use Rattle.std.specs.List.{AllByRecursion}
 use Rattle.quad_field.specs.FieldNumber.{IsFieldNumber}
 use Rattle.surface_text.specs.Limits.{IsBasePoint}

@@ -1,8 +1,8 @@
 -- From how a run ends to the number that the program ends with.
-use Rattle.std.proofs.Common.{◌≡◌, ℕ, ◌⊎◌, inl, inr, List, ap, ◌∙◌, subst, Option, Some, None}
+use Rattle.std.proofs.Common.{◌≡◌, ℕ, ◌⊎◌, inl, inr, List, refl, ap, ◌∙◌, subst, arith, Option, Some, None}
 use Rattle.std.specs.Prelude.{IfSome}
 use Rattle.answer_text.specs.declared.status.Status.{Status}
-use Rattle.answer_text.specs.declared.status.Status.TheVariants.{Memory}
+use Rattle.answer_text.specs.declared.status.Status.TheVariants.{Done, Words, File, NotStrict, FlipsEnded, TooWide, LimitPassed, ReadFault, WriteFault, Memory, No}
 use Rattle.answer_text.specs.Statuses.{number_of}
 use Rattle.command_words.specs.declared.command.Command.{Command}
 use Rattle.veech_cli.specs.Owed.{Owes, IsOptional}
@@ -39,3 +39,17 @@ pub memory_number : (command : Command) (left : Option (List ℕ)) (number : ℕ
     → IfSome left (λ input. (status : Status) (text : List ℕ) → Owes command input status text → IsNumberOwed command input number status)
 memory_number command None number ends = tt
 memory_number command (Some bytes) number ends = λ status text owes. inr (inl ends)
+
+-- the numbers of refused words and of failed ends are theirs alone
+pub known_by_number : (status : Status) → (number_of status ≡ 2 → status ≡ Words) × (number_of status ≡ 8 → status ≡ ReadFault) × (number_of status ≡ 9 → status ≡ WriteFault)
+known_by_number Done = ((λ e. absurd (omega (arith, e))), (λ e. absurd (omega (arith, e))), (λ e. absurd (omega (arith, e))))
+known_by_number Words = ((λ e. refl), (λ e. absurd (omega (arith, e))), (λ e. absurd (omega (arith, e))))
+known_by_number (File cause line) = ((λ e. absurd (omega (arith, e))), (λ e. absurd (omega (arith, e))), (λ e. absurd (omega (arith, e))))
+known_by_number (NotStrict edge) = ((λ e. absurd (omega (arith, e))), (λ e. absurd (omega (arith, e))), (λ e. absurd (omega (arith, e))))
+known_by_number (FlipsEnded point) = ((λ e. absurd (omega (arith, e))), (λ e. absurd (omega (arith, e))), (λ e. absurd (omega (arith, e))))
+known_by_number (TooWide formula place) = ((λ e. absurd (omega (arith, e))), (λ e. absurd (omega (arith, e))), (λ e. absurd (omega (arith, e))))
+known_by_number (LimitPassed limit) = ((λ e. absurd (omega (arith, e))), (λ e. absurd (omega (arith, e))), (λ e. absurd (omega (arith, e))))
+known_by_number ReadFault = ((λ e. absurd (omega (arith, e))), (λ e. refl), (λ e. absurd (omega (arith, e))))
+known_by_number WriteFault = ((λ e. absurd (omega (arith, e))), (λ e. absurd (omega (arith, e))), (λ e. refl))
+known_by_number Memory = ((λ e. absurd (omega (arith, e))), (λ e. absurd (omega (arith, e))), (λ e. absurd (omega (arith, e))))
+known_by_number (No cause) = ((λ e. absurd (omega (arith, e))), (λ e. absurd (omega (arith, e))), (λ e. absurd (omega (arith, e))))

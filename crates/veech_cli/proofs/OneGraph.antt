@@ -1,5 +1,5 @@
 -- A base has one graph of its classes, and one list of matrices.
-use Rattle.std.proofs.Common.{◌≡◌, ◌∙◌, ℕ, zero, suc, ◌<◌, List, [], ◌∷◌, length, get_or, refl, ap, ap₂, sym, subst, arith}
+use Rattle.std.proofs.Common.{◌≡◌, ◌∙◌, ℕ, suc, ◌<◌, List, [], ◌∷◌, length, get_or, refl, ap, ap₂, sym, subst, arith}
 use Rattle.std.specs.Prelude.{ℤ, Some}
 use Rattle.std.specs.Ordering.{MatchOrdering, int_cmp, nat_cmp}
 use Rattle.std.specs.declared.cmp.Ordering.{Ordering}
@@ -28,7 +28,6 @@ use Rattle.class_node.proofs.CallerLemmas.{class_valid, one_frame}
 use Rattle.quotient.specs.Trees.{IsTree}
 use Rattle.quotient.specs.Quotients.{AreQuotients}
 use Rattle.quotient.proofs.CallerLemmas.{one_group}
-use Rattle.returning.specs.Turns.{AreTurns}
 use Rattle.veech_cli.specs.Groups.{IsGraphOf, AreMatricesOf}
 use Rattle.veech_cli.proofs.Ascending.{one_list, one_place}
 use Rattle.veech_cli.proofs.Grouped.{first_is, links_are, turns_are}

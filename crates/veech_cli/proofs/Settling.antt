@@ -1,25 +1,24 @@
 -- From what a command owes an input to how a run ends.
 use Rattle.std.proofs.Common.{◌≡◌, ℕ, zero, suc, ◌+◌, ◌<◌, ◌≤◌, ◌⊎◌, inl, inr, refl, List, [], ◌∷◌, length, ap, sym, ◌∙◌, subst, arith, Option, Some, None, Result, Err, ◌↔◌}
-use Rattle.std.specs.Prelude.{IfSome, IsErrOf, Ok, IfErr, MatchOption}
+use Rattle.std.specs.Prelude.{IfSome, IsErrOf, Ok, IfOk, IfErr, MatchOption}
 use Rattle.io_ends.specs.Ends.{given}
 use Rattle.io_ends.specs.declared.reading.ReadAll.{ReadAll}
 use Rattle.io_ends.specs.declared.reading.ReadAll.TheVariants as read_faults
-use Rattle.surface_text.specs.Spelling.{Content}
-use Rattle.surface_text.specs.Limits.{IsBasePoint}
+use Rattle.surface_text.specs.Spelling.{Content, text as file_text}
+use Rattle.family_gen.specs.Families.{family_of}
 use Rattle.gluing.specs.Refusals.{IsFaultOf}
 use Rattle.gluing.specs.declared.fault.GlueFault.{GlueFault}
 use Rattle.gluing.specs.declared.fault.GlueFault.TheVariants as glue_faults
 use Rattle.answer_text.specs.declared.status.Status.{Status}
-use Rattle.answer_text.specs.declared.status.Status.TheVariants.{Done, Words, File, NotStrict, FlipsEnded, TooWide, ReadFault, WriteFault, Memory}
-use Rattle.answer_text.specs.Statuses.{HasBasePoint}
+use Rattle.answer_text.specs.declared.status.Status.TheVariants.{Done, Words, File, ReadFault, WriteFault, Memory}
 use Rattle.answer_text.specs.Lines.{status_line}
 use Rattle.command_words.specs.declared.command.Command.{Command}
-use Rattle.command_words.specs.declared.command.Command.TheVariants.{Check, Base}
+use Rattle.command_words.specs.declared.command.Command.TheVariants.{Check, Base, Region, Path, Plain, Make, Trial}
 use Rattle.command_words.specs.Commands.{Names, AreTaken}
-use Rattle.veech_cli.specs.SurfaceFiles.{IsTextOf, IsAccepted, IsRefused, too_long, not_glued}
-use Rattle.veech_cli.specs.Owed.{Owes, IsOptional}
+use Rattle.veech_cli.specs.SurfaceFiles.{IsTextOf, IsAccepted, too_long, not_glued}
+use Rattle.veech_cli.specs.Owed.{ReadsInput, Owes, IsOptional}
 use Rattle.veech_cli.specs.Refusals.{status_of_reading, status_of_gluing}
-use Rattle.veech_cli.specs.Runs.{IsFailure, SettlesOn, Settles, IsInput, SomeInput, Delivers, IsReadWhole, SaysNothing}
+use Rattle.veech_cli.specs.Runs.{SettlesOn, Settles, IsInput, SomeInput, Delivers, IsReadWhole, SaysNothing}
 use Rattle.veech_cli.specs.declared.refusal.Refusal.{Refusal}
 use Rattle.veech_cli.specs.Surfaces.{RefusesFile, IsRefusal, IsRefusalOf}
 use Rattle.command_words.proofs.CallerLemmas.{one_command}
@@ -40,11 +39,11 @@ pub gluing_refuses : (input : List ℕ) (file : Content) → IsTextOf input file
 gluing_refuses input file t (glue_faults.Bad cause line) h = inl (cause, line, not_glued file t h, refl)
 gluing_refuses input file t glue_faults.Memory h = inr refl
 
--- the refusal of a file is one of every command
-pub refuses_file : (command : Command) (input : List ℕ) (status : Status) → RefusesFile input status → IsRefusalOf command input status
-refuses_file command input status (inl h) =
-    (subst IsRefusal (sym h.3) (file_refusal h.0 h.1), inl (inl (h.0, h.1, h.2, h.3, ap status_line h.3)))
-refuses_file command input status (inr e) = (subst IsRefusal (sym e) memory_refusal, inr e)
+-- the refusal of a file is one of every command that reads it
+pub refuses_file : (command : Command) → ReadsInput command → (input : List ℕ) (status : Status) → RefusesFile input status → IsRefusalOf command input status
+refuses_file command reads input status (inl h) =
+    (subst IsRefusal (sym h.3) (file_refusal h.0 h.1), inl (inl (h.0, h.1, reads, h.2, h.3, ap status_line h.3)))
+refuses_file command reads input status (inr e) = (subst IsRefusal (sym e) memory_refusal, inr e)
 
 -- and so is want of memory
 pub refuses_memory : (command : Command) (input : List ℕ) (status : Status) → status ≡ Memory → IsRefusalOf command input status
@@ -67,6 +66,31 @@ any_input : (left : Option (List ℕ)) (P : List ℕ → Type 0) → ((input : L
 any_input None P h = ([], tt, h [])
 any_input (Some bytes) P h = (bytes, refl, h bytes)
 
+-- what a command that reads no input owes, it owes whatever the input
+pub whatever : (command : Command) → ¬ (ReadsInput command) → (input other : List ℕ) (status : Status) (text : List ℕ) → Owes command input status text → Owes command other status text
+whatever Check none input other status text owed = absurd (none tt)
+whatever (Base flips) none input other status text owed = absurd (none tt)
+whatever (Region flips) none input other status text owed = absurd (none tt)
+whatever (Path flips choices) none input other status text owed = absurd (none tt)
+whatever (Plain flips limit summary) none input other status text owed = absurd (none tt)
+whatever (Make number) none input other status text (inl refused) = absurd refused.2
+whatever (Make number) none input other status text (inr answer) = inr answer
+whatever (Trial flips limit number) none input other status text (inl refused) = absurd refused.2
+whatever (Trial flips limit number) none input other status text (inr answer) = inr answer
+
+-- so it settles on that
+module _ {X : Type 0} (command : Command) (none : ¬ (ReadsInput command)) (left : Option (List ℕ)) (input : List ℕ) where
+  pub owed_whatever : (P : X → List ℕ) (r : Result X Refusal) → IfOk r (λ x. Owes command input Done (P x)) → IfOk r (λ x. SomeInput left (λ input. Owes command input Done (P x)))
+  owed_whatever P (Ok x) owed = any_input left (λ input. Owes command input Done (P x)) (λ other. whatever command none input other Done (P x) owed)
+  owed_whatever P (Err refusal) owed = tt
+
+  pub settles_whatever : (r : Result X Refusal) → IfErr r (λ refusal. IsRefusalOf command input refusal.status)
+      → IfErr r (λ refusal. SomeInput left (λ input. SettlesOn command input refusal.status (status_line refusal.status)))
+  settles_whatever (Ok x) refused = tt
+  settles_whatever (Err refusal) (_, inl owed) =
+      any_input left (λ input. SettlesOn command input refusal.status (status_line refusal.status)) (λ other. inl (whatever command none input other refusal.status (status_line refusal.status) owed))
+  settles_whatever (Err refusal) (_, inr e) = any_input left (λ input. SettlesOn command input refusal.status (status_line refusal.status)) (λ other. inr (inr e, refl))
+
 -- bytes that are too long
 some_long : (n : ℕ) → List ℕ
 some_long zero = []
@@ -77,22 +101,23 @@ unfolding some_long
 length_long zero = refl
 length_long (suc n) = ap suc (length_long n)
 
-long_refused : (command : Command) (input : List ℕ) → 1048576 < length input → SettlesOn command input (File 0 0) (status_line (File 0 0))
-long_refused command input h = inl (inl (0, 0, too_long h refl refl, refl, refl))
+long_refused : (command : Command) → ReadsInput command → (input : List ℕ) → 1048576 < length input → SettlesOn command input (File 0 0) (status_line (File 0 0))
+long_refused command reads input h = inl (inl (0, 0, reads, too_long h refl refl, refl, refl))
 
-long_input : (command : Command) (left : Option (List ℕ)) → IfSome left (λ bytes. 1048576 < length bytes) → SomeInput left (λ input. SettlesOn command input (File 0 0) (status_line (File 0 0)))
-long_input command None h = unknown 1048577 refl
+long_input : (command : Command) → ReadsInput command → (left : Option (List ℕ)) → IfSome left (λ bytes. 1048576 < length bytes)
+    → SomeInput left (λ input. SettlesOn command input (File 0 0) (status_line (File 0 0)))
+long_input command reads None h = unknown 1048577 refl
   where
     unknown : (n : ℕ) → n ≡ 1048577 → SomeInput None (λ input. SettlesOn command input (File 0 0) (status_line (File 0 0)))
-    unknown n e = (some_long n, tt, long_refused command (some_long n) (omega (arith, length_long n, e)))
-long_input command (Some bytes) h = (bytes, refl, long_refused command bytes h)
+    unknown n e = (some_long n, tt, long_refused command reads (some_long n) (omega (arith, length_long n, e)))
+long_input command reads (Some bytes) h = (bytes, refl, long_refused command reads bytes h)
 
-module _ {X : Type 0} (command : Command) (left after : Option (List ℕ)) (r : Result X ReadAll) where
+module _ {X : Type 0} (command : Command) (reads : ReadsInput command) (left after : Option (List ℕ)) (r : Result X ReadAll) where
   -- a source that wasn't read settles on a failure, or on the refusal of what is too long
   pub reading_settles : (fault : ReadAll) → r ≡ Err fault → (IsErrOf r read_faults.TooLong → IfSome left (λ bytes. 1048576 < length bytes))
       → SomeInput left (λ input. SettlesOn command input (status_of_reading fault) (status_line (status_of_reading fault)))
   reading_settles read_faults.Fault e h = any_input left (λ input. SettlesOn command input ReadFault (status_line ReadFault)) (λ _. inr (inl refl, refl))
-  reading_settles read_faults.TooLong e h = long_input command left (h e)
+  reading_settles read_faults.TooLong e h = long_input command reads left (h e)
   reading_settles read_faults.Memory e h = any_input left (λ input. SettlesOn command input Memory (status_line Memory)) (λ _. inr (inr refl, refl))
 
   -- which is one line more read than may be, or says nothing of the input
@@ -177,10 +202,6 @@ pub words_come : (words : List (List ℕ)) (left taken after : Option (List ℕ)
 words_come words None taken after result n d = ([], Words, status_line Words, tt, inr (inr (n, refl, refl)), d)
 words_come words (Some bytes) taken after result n d = (bytes, Words, status_line Words, refl, inr (inr (n, refl, refl)), d)
 
-pub words_whole : {P : Type 0} (text : List ℕ) (result : Status) (taken after : Option (List ℕ)) → Delivers Words text result taken after → SaysNothing result ⊎ P
-words_whole text result taken after (inl d) = inl (inl d.0)
-words_whole text result taken after (inr d) = inl (inr (inr (inl d.0)))
-
 -- where no end failed, what a run settled on is answered
 module _ (result : Status) (taken after : Option (List ℕ)) (read_rose write_rose : Type 0)
     (read : result ≡ ReadFault → read_rose) (write : result ≡ WriteFault → write_rose) (no_read : ¬ read_rose) (no_write : ¬ write_rose) where
@@ -219,8 +240,26 @@ module _ (result : Status) (taken after : Option (List ℕ)) (read_rose write_ro
   ]
     where
       done : (file : Content) → IsAccepted bytes file → Owes Check bytes owed text → owed ≡ Done
-      done file taken_as (inl refused) = absurd (not_both bytes file refused.0 refused.1 taken_as refused.2)
-      done file taken_as (inr answer) = answer.4.4
+      done file taken_as (inl refused) = absurd (not_both bytes file refused.0 refused.1 taken_as refused.3)
+      done file taken_as (inr (other, works, (halves, cut, answer))) = answer.4
+
+  -- a command that reads no input needs none for it
+  pub complete_unread : (command : Command) (left : Option (List ℕ)) → ¬ (ReadsInput command) → ComesOut command left result taken after → (input : List ℕ) (status : Status) (text : List ℕ)
+      → Owes command input status text
+      → (result ≡ status) ⊎ ((result ≡ Memory) ⊎ (IsOptional status ⊎ (IsOptional result × ((line : List ℕ) × Owes command input result line))))
+  complete_unread command left none (known, owed, text, is, on, d) input =
+      complete command (Some input) (input, owed, text, refl, elim on [ inl owes ↦ inl (whatever command none known input owed text owes) | inr failed ↦ inr failed ], d)
+
+  -- and `make` answers Done
+  pub makes : (number : ℕ) (left : Option (List ℕ)) → ComesOut (Make number) left result taken after → (result ≡ Done) ⊎ (result ≡ Memory)
+  makes number left (input, owed, text, is, on, d) = elim (settled (Make number) input owed text on d) [
+    | inl has ↦ inl (answered owed text d ∙ done owed text has)
+    | inr memory ↦ inr memory
+  ]
+    where
+      done : (owed : Status) (text : List ℕ) → Owes (Make number) input owed text → owed ≡ Done
+      done owed text (inl refused) = absurd refused.2
+      done owed text (inr (file, works, (is, line))) = is
 
 -- what is known of the command that was found, or that there is none
 pub found_named : (words : List (List ℕ)) (found : Option Command) (command : Command) → found ≡ Some command → MatchOption found (¬ (AreTaken words)) (Names words) → Names words command
@@ -229,10 +268,16 @@ found_named words found command e h = subst (λ o. MatchOption o (¬ (AreTaken w
 pub none_taken : (words : List (List ℕ)) (found : Option Command) → found ≡ None → MatchOption found (¬ (AreTaken words)) (Names words) → ¬ (AreTaken words)
 none_taken words found e h = subst (λ o. MatchOption o (¬ (AreTaken words)) (Names words)) e h
 
--- words name one command
-pub same_command : (words : List (List ℕ)) (left taken after : Option (List ℕ)) (result : Status) (found command : Command) → Names words found → Names words command
-    → ComesOut found left result taken after → ComesOut command left result taken after
-same_command words left taken after result found command a b comes = subst (λ c. ComesOut c left result taken after) (one_command words found command a b) comes
+-- what a run settled on is settled on by the command that the words name
+settled_by : (words : List (List ℕ)) (command : Command) (input : List ℕ) (status : Status) (text : List ℕ) → Names words command → Settles words input status text → SettlesOn command input status text
+settled_by words command input status text names (inl (found, also, owed)) = inl (subst (λ (c : Command). Owes c input status text) (one_command words found command also names) owed)
+settled_by words command input status text names (inr (inl failed)) = inr failed
+settled_by words command input status text names (inr (inr (none, _, _))) = absurd (none (command, names))
+
+pub comes_named : (words : List (List ℕ)) (command : Command) (left taken after : Option (List ℕ)) (result : Status) → Names words command
+    → (input : List ℕ) × (status : Status) × (text : List ℕ) × IsInput left input × Settles words input status text × Delivers status text result taken after
+    → ComesOut command left result taken after
+comes_named words command left taken after result names (input, status, text, is, settles, d) = (input, status, text, is, settled_by words command input status text names settles, d)
 
 pub named : (words : List (List ℕ)) (command : Command) (left taken after : Option (List ℕ)) (result : Status) → Names words command → ComesOut command left result taken after
     → (input : List ℕ) × (status : Status) × (text : List ℕ) × IsInput left input × Settles words input status text × Delivers status text result taken after
@@ -249,17 +294,30 @@ pub memory_whole : {P : Type 0} (text : List ℕ) (result : Status) (taken after
 memory_whole text result taken after (inl d) = inl (inr (inr (inr d.0)))
 memory_whole text result taken after (inr d) = inl (inr (inr (inl d.0)))
 
--- which is an answer, where no end failed
-pub memory_answers : (result : Status) (text : List ℕ) (taken after : Option (List ℕ)) (write_rose : Type 0) → Delivers Memory text result taken after → (result ≡ WriteFault → write_rose) → ¬ write_rose → result ≡ Memory
-memory_answers result text taken after write_rose (inl d) write quiet = d.0
-memory_answers result text taken after write_rose (inr d) write quiet = absurd (quiet (write d.0))
+-- it is no failed source
+pub memory_not_read : (text : List ℕ) (result : Status) (taken after : Option (List ℕ)) → Delivers Memory text result taken after → ¬ (result ≡ ReadFault)
+memory_not_read text result taken after (inl d) is = not_read (sym d.0 ∙ is)
+  where
+    not_read : Memory ≡ ReadFault → ⊥
+    not_read e = cc
+memory_not_read text result taken after (inr d) is = not_read (sym d.0 ∙ is)
+  where
+    not_read : WriteFault ≡ ReadFault → ⊥
+    not_read e = cc
 
-pub any_complete : (left : Option (List ℕ)) (command : Command) (result : Status) → result ≡ Memory
-    → IfSome left (λ input. (status : Status) (text : List ℕ) → Owes command input status text
-    → (result ≡ status) ⊎ ((result ≡ Memory) ⊎ (IsOptional status ⊎ (IsOptional result × ((line : List ℕ) × Owes command input result line)))))
-any_complete None command result e = tt
-any_complete (Some bytes) command result e = λ status text owes. inr (inl e)
+-- `make` and `trial` owe what they answer, by the numbers of their words
+pub make_owed : (command : Command) (number n : ℕ) (input text : List ℕ) → command ≡ Make number → n ≡ number → n < 200 → text ≡ file_text (family_of n) → Owes command input Done text
+make_owed command number n input text is same small e =
+    subst (λ (c : Command). Owes c input Done text) (ap Make same ∙ sym is) (inr (family_of n, (small, refl), (refl, e)))
 
-pub any_accepted : (left : Option (List ℕ)) (result : Status) → result ≡ Memory → IfSome left (λ input. (file : Content) → IsAccepted input file → (result ≡ Done) ⊎ (result ≡ Memory))
-any_accepted None result e = tt
-any_accepted (Some bytes) result e = λ file taken_as. inr e
+module _ (command : Command) (flips limit number l n : ℕ) (input : List ℕ) (is : command ≡ Trial flips limit number) (same : l ≡ limit) (also : n ≡ number) where
+  trial_is : Trial flips l n ≡ command
+  trial_is = (λ i. Trial flips (same i) (also i)) ∙ sym is
+
+  pub trial_owed : {X : Type 0} (items : X → List ℕ) (r : Result X Refusal) → IfOk r (λ text. (input : List ℕ) → Owes (Trial flips l n) input Done (items text)) → IfOk r (λ text. Owes command input Done (items text))
+  trial_owed items (Ok x) h = subst (λ (c : Command). Owes c input Done (items x)) trial_is (h input)
+  trial_owed items (Err refusal) h = tt
+
+  pub trial_refused : {X : Type 0} (r : Result X Refusal) → IfErr r (λ refusal. (input : List ℕ) → IsRefusalOf (Trial flips l n) input refusal.status) → IfErr r (λ refusal. IsRefusalOf command input refusal.status)
+  trial_refused (Ok x) h = tt
+  trial_refused (Err refusal) h = subst (λ (c : Command). IsRefusalOf c input refusal.status) trial_is (h input)

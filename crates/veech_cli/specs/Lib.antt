@@ -2,6 +2,7 @@ pub mod SurfaceFiles
 pub mod Endings
 pub mod Classes
 pub mod Groups
+pub mod Writings
 pub mod Owed
 pub mod Headline
 pub mod Runs

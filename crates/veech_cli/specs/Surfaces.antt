@@ -3,7 +3,7 @@ use Rattle.std.specs.Prelude.{◌≡◌, ℕ, ℤ, ◌⊎◌, Option, None, List
 use Rattle.std.specs.List.{Contains}
 use Rattle.surface_text.specs.Spelling.{Content}
 use Rattle.surface_text.specs.declared.file.Point.{Point}
-use Rattle.gluing.specs.Gluings.{Gluing, gluing_of}
+use Rattle.gluing.specs.Gluings.{Gluing, IsGluing, gluing_of}
 use Rattle.tri_core.specs.Triangulation.{Triangulation}
 use Rattle.answer_text.specs.declared.status.Status.{Status}
 use Rattle.answer_text.specs.declared.status.Status.TheVariants.{Done, File, Words, TooWide, LimitPassed, WriteFault, Memory, No}
@@ -21,19 +21,22 @@ use Rattle.answer_text.specs.Statuses.{HasBasePoint}
 use Rattle.answer_text.specs.Lines.{status_line}
 use Rattle.command_words.specs.declared.command.Command.{Command}
 use Rattle.veech_cli.specs.SurfaceFiles.{IsAccepted, IsTriangulationOf, IsRefused}
-use Rattle.veech_cli.specs.Classes.{MoreAreReachedCodes, IsWideAtClass}
-use Rattle.veech_cli.specs.Groups.{IsWideInMatrices}
+use Rattle.report_text.specs.declared.report.Report.{Report}
+use Rattle.veech_cli.specs.Classes.{AreClassesWithin, MoreAreReachedCodes, IsWideAtClass}
+use Rattle.veech_cli.specs.Groups.{AreMatricesOf, IsWideInMatrices}
 use Rattle.veech_cli.specs.Owed.{Owes}
 
--- the input is accepted as a file with this field and these base points, and its polygons are glued so
-abbrev pub IsGluedFrom : List ℕ → ℕ → List Point → Gluing → Type 0
-IsGluedFrom input d bases gluing =
-    (file : Content) × IsAccepted input file × (d ≡ file.field) × (bases ≡ file.bases) × (gluing ≡ gluing_of file)
+-- the file has this field and these base points, and its polygons are glued so
+abbrev pub IsGluedAs : Content → ℕ → List Point → Gluing → Type 0
+IsGluedAs file d bases gluing = (d ≡ file.field) × (bases ≡ file.bases) × (gluing ≡ gluing_of file) × IsGluing (gluing_of file)
 
--- the input is accepted as a file with these base points, and this is its triangulation
+-- the file has these base points, and this is its triangulation
+abbrev pub IsSurfaceOf : Content → List Point → Triangulation → Type 0
+IsSurfaceOf file bases tri = (bases ≡ file.bases) × (tri.field ≡ file.field) × IsTriangulationOf file tri.halves
+
+-- the input is accepted as a file with these base points and this triangulation
 abbrev pub IsTriangulatedFrom : List ℕ → List Point → Triangulation → Type 0
-IsTriangulatedFrom input bases tri =
-    (file : Content) × IsAccepted input file × (bases ≡ file.bases) × (tri.field ≡ file.field) × IsTriangulationOf file tri.halves
+IsTriangulatedFrom input bases tri = (file : Content) × IsAccepted input file × IsSurfaceOf file bases tri
 
 -- the status says that the input is refused as a surface file, or that memory ran out
 abbrev pub RefusesFile : List ℕ → Status → Type 0
@@ -86,6 +89,13 @@ RefusesTurnsOf d code status = (HasWideFrame d (canonical d code) × (status ≡
 abbrev pub RefusesMatrices : ℕ → List Half → ℕ → Status → Type 0
 RefusesMatrices d halves limit status =
     ((formula : Formula) × IsWideInMatrices d halves limit formula × (status ≡ TooWide formula places.Quotient)) ⊎ (status ≡ Memory)
+
+-- the report is that of the classes that are reached from a base at a point, at most so many, and of their matrices
+pub record IsReportOf (d limit : ℕ) (at : Point) (base : List Half) (report : Report) : Type 0 where
+  pub field : report.field ≡ d
+  pub point : report.point ≡ at
+  pub classes : AreClassesWithin d base limit report.codes.items
+  pub matrices : AreMatricesOf d base report.codes.items report.mats.items
 
 -- the status says one of these
 abbrev pub RefusesPlain : ℕ → List Half → ℕ → Status → Type 0

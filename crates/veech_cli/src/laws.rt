@@ -1,12 +1,14 @@
 //! The laws of inputs and of what they are owed, each the contract of a function that does nothing: an input is accepted as one file,
 //! or refused for one cause in one line, never both, a command owes it one status, and one report, and a report that it owes is closed.
 
-ghost use Rattle.std.specs.Prelude.{◌≡◌, ◌⊎◌, ℕ, List};
+ghost use Rattle.std.specs.Prelude.{◌≡◌, ◌⊎◌, ℕ, Bool, List};
 ghost use Rattle.surface_text.specs.Spelling.{Content};
 ghost use Rattle.answer_text.specs.declared.status.Status.{Status};
 ghost use Rattle.answer_text.specs.declared.status.Status.TheVariants.{Done};
 ghost use Rattle.command_words.specs.declared.command.Command.{Command};
-ghost use Rattle.command_words.specs.declared.command.Command.TheVariants.{Plain};
+ghost use Rattle.command_words.specs.declared.command.Command.TheVariants.{Plain, Trial};
+ghost use Rattle.family_gen.specs.Families.{family_of};
+ghost use Rattle.veech_cli.specs.Writings.{trial_text, plain_text};
 ghost use Rattle.veech_cli.specs.SurfaceFiles.{IsAccepted, IsRefused};
 ghost use Rattle.veech_cli.specs.Owed.{Owes, IsOptional};
 ghost use Rattle.veech_cli.specs.Headline.{IsClosed};
@@ -41,15 +43,23 @@ pub fn one_answer()
         → (status ≡ other) ⊎ IsOptional status ⊎ IsOptional other }
 {}
 
-/// The report of an input is one, by the number of flips alone: the limit changes nothing of it.
+/// What `plain` writes of an input is one text, by the number of flips alone, and so is what `trial` writes of a number: the limit
+/// changes nothing of it.
 pub fn one_report()
-    ensures { (flips limit other : ℕ) (input text line : List ℕ) → Owes (Plain flips limit) input Done text → Owes (Plain flips other) input Done line → text ≡ line }
+    ensures plain { (flips limit other : ℕ) (summary : Bool) (input text line : List ℕ) → Owes (Plain flips limit summary) input Done text
+        → Owes (Plain flips other summary) input Done line → text ≡ line }
+    ensures trial { (flips limit other number : ℕ) (input text line : List ℕ) → Owes (Trial flips limit number) input Done text
+        → Owes (Trial flips other number) input Done line → text ≡ line }
 {}
 
-/// A report that is owed is closed: it has exactly the classes that crossings reach from the base, and matrices that generate exactly
-/// the derivatives of the paths that return to an image of the base.
+/// A report that is owed is closed, and so is its summary: it has exactly the classes that crossings reach from the base, and matrices
+/// that generate exactly the derivatives of the paths that return to an image of the base. What `trial` owes is the summary of such a
+/// report, of the file of its number.
 pub fn reports_are_closed()
-    ensures { (flips limit : ℕ) (input text : List ℕ) → Owes (Plain flips limit) input Done text → IsClosed input flips limit text }
+    ensures plain { (flips limit : ℕ) (summary : Bool) (input text : List ℕ) → Owes (Plain flips limit summary) input Done text
+        → IsClosed (IsAccepted input) flips limit (plain_text summary) text }
+    ensures trial { (flips limit number : ℕ) (input text : List ℕ) → Owes (Trial flips limit number) input Done text
+        → IsClosed (λ file. file ≡ family_of number) flips limit (trial_text number) text }
 {
     quotients_generate_the_returning_derivatives();
     quotients_have_determinant_one();

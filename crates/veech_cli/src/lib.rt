@@ -4,6 +4,7 @@
 mod base;
 mod check;
 pub mod laws;
+mod make;
 mod path;
 mod plain;
 mod program;
@@ -11,6 +12,7 @@ mod refusal;
 mod region;
 mod run;
 mod surface;
+mod trial;
 
 pub use answer_text::{NoCause, Place, Status, status_number};
 pub use command_words::WordList;

@@ -16,13 +16,14 @@ ghost use Rattle.answer_text.specs.declared.status.Status.TheVariants.{Done};
 ghost use Rattle.command_words.specs.declared.command.Command.TheVariants.{Plain};
 ghost use Rattle.veech_cli.specs.Classes.{AreClassesWithin};
 ghost use Rattle.veech_cli.specs.Groups.{IsGraphOf, AreMatricesOf};
-ghost use Rattle.veech_cli.specs.Owed.{Owes, IsPlainAnswer};
-ghost use Rattle.veech_cli.specs.Surfaces.{IsRefusalOf, RefusesRoot, RefusesClasses, RefusesTurns, RefusesTurnsOf, RefusesMatrices, RefusesPlain};
+ghost use Rattle.veech_cli.specs.Writings.{plain_text};
+ghost use Rattle.veech_cli.specs.Owed.{Owes};
+ghost use Rattle.veech_cli.specs.Surfaces.{IsRefusalOf, RefusesRoot, RefusesClasses, RefusesTurns, RefusesTurnsOf, RefusesMatrices, IsReportOf, RefusesPlain};
 
 use super::base::base_of_surface;
 use super::refusal::Refusal;
 use super::surface::surface_of;
-use answer_text::{Place, Status};
+use answer_text::{Place, Status, summary_text};
 use canon_code::Code;
 use class_node::ClassTerrain;
 use class_node::laws::{keys_of_a_graph_are_reached_codes, reached_keys_are_reached_codes};
@@ -32,28 +33,46 @@ use plane::Mat2;
 use quad_field::{Field, Formula};
 use quotient::{QuotientFault, quotient};
 use report_text::{Report, print};
-use std::alloc::Global;
+use std::alloc::{AllocError, Global};
 use terrain::{ExploreFault, Graph, Stop};
 
 /// What `plain` prints for an input, with at most so many flips and classes, or why there is nothing to print.
-pub(crate) fn plain(alloc: Global, input: &[u8], flips: u32, limit: u32) -> Result<Vec<u8>, Refusal>
+pub(crate) fn plain(
+    alloc: Global,
+    input: &[u8],
+    flips: u32,
+    limit: u32,
+    summary: bool,
+) -> Result<Vec<u8>, Refusal>
     requires input { length input.now ≤ 1048576 }
     requires limit { limit ≤ 2048 }
-    ensures owed { IfOk result (λ text. Owes (Plain flips limit) input.now Done text.items) }
-    ensures refused { IfErr result (λ refusal. IsRefusalOf (Plain flips limit) input.now refusal.status) }
+    ensures owed { IfOk result (λ text. Owes (Plain flips limit summary) input.now Done text.items) }
+    ensures refused { IfErr result (λ refusal. IsRefusalOf (Plain flips limit summary) input.now refusal.status) }
 {
     let surface = surface_of(alloc, input)?;
     let base = base_of_surface(alloc, &surface, flips)?;
-    let text = report_of(alloc, surface.field, &base, limit)?;
+    let report = report_of(alloc, surface.field, &base, limit)?;
+    let text = text_of(alloc, &report, summary)?;
     Ok(text)
 }
 
-/// The report of a base, as `plain` prints it.
-fn report_of(alloc: Global, f: Field, base: &Base, limit: u32) -> Result<Vec<u8>, Refusal>
+/// The text of a report, or its summary.
+fn text_of(alloc: Global, report: &Report, summary: bool) -> Result<Vec<u8>, AllocError>
+    requires { IsBasePoint report.now.point }
+    ensures { IfOk result (λ text. text.items ≡ plain_text summary report.now.field report.now.point report.now.codes.items report.now.mats.items) }
+{
+    if summary {
+        summary_text(alloc, report)
+    } else {
+        print(alloc, report)
+    }
+}
+
+/// The report of a base: the classes that crossings reach from it, where they are at most so many, and their matrices.
+pub(crate) fn report_of(alloc: Global, f: Field, base: &Base, limit: u32) -> Result<Report, Refusal>
     requires field { f ≡ base.now.tri.field }
-    requires point { IsBasePoint base.now.point }
     requires limit { limit ≤ 2048 }
-    ensures answer { IfOk result (λ text. IsPlainAnswer base.now.tri.field limit base.now.point base.now.tri.halves Done text.items) }
+    ensures report { IfOk result (λ report. IsReportOf base.now.tri.field limit base.now.point base.now.tri.halves report) }
     ensures refused { IfErr result (λ refusal. RefusesPlain base.now.tri.field base.now.tri.halves limit refusal.status) }
 {
     let field = f.number();
@@ -62,14 +81,12 @@ fn report_of(alloc: Global, f: Field, base: &Base, limit: u32) -> Result<Vec<u8>
     let graph = graph_of(alloc, &terrain, base, &root, limit)?;
     let turns = turns_of(alloc, &terrain, graph.keys.as_slice())?;
     let mats = matrices_of(alloc, &f, base, &graph, &frame, turns.as_slice(), limit)?;
-    let report = Report {
+    Ok(Report {
         field,
         point: base.point,
         codes: graph.keys,
         mats,
-    };
-    let text = print(alloc, &report)?;
-    Ok(text)
+    })
 }
 
 /// The code of a base, and its frame.

@@ -7,7 +7,7 @@ ghost use Rattle.answer_text.specs.declared.status.Status.{Status as Answer};
 ghost use Rattle.answer_text.specs.Statuses.{number_of};
 ghost use Rattle.command_words.specs.declared.command.Command.{Command};
 ghost use Rattle.command_words.specs.Commands.{Names, AreTaken};
-ghost use Rattle.veech_cli.specs.Owed.{Owes, IsOptional};
+ghost use Rattle.veech_cli.specs.Owed.{ReadsInput, Owes, IsOptional};
 ghost use Rattle.veech_cli.specs.Runs.{Settles, Delivers, IsInput};
 ghost use Rattle.veech_cli.specs.Programs.{words_given};
 
@@ -45,8 +45,15 @@ pub fn run_program<S: Source, K: Sink>(
         → IfSome (S.left source.old) (λ input. (status : Answer) (text : List ℕ) → Owes command input status text
         → (exit_status result ≡ number_of status) ⊎ (exit_status result ≡ number_of Answer.Memory)
         ⊎ IsOptional status ⊎ ((last : Answer) × (line : List ℕ) × IsOptional last × Owes command input last line × (exit_status result ≡ number_of last))) }
+    // `make` and `trial` need no source for it.
+    ensures complete_unread { (command : Command) → Names (words_given args) command → ¬ (ReadsInput command)
+        → ¬ (Rose (K.faults sink.old) (K.faults sink.new))
+        → (input : List ℕ) (status : Answer) (text : List ℕ) → Owes command input status text
+        → (exit_status result ≡ number_of status) ⊎ (exit_status result ≡ number_of Answer.Memory)
+        ⊎ IsOptional status ⊎ ((last : Answer) × (line : List ℕ) × IsOptional last × Owes command input last line × (exit_status result ≡ number_of last)) }
     ensures words { AreTaken (words_given args) → ¬ (exit_status result ≡ number_of Answer.Words) }
     ensures unread { ¬ (AreTaken (words_given args)) → source.new ≡ source.old }
+    ensures unread_by_number { (command : Command) → Names (words_given args) command → ¬ (ReadsInput command) → source.new ≡ source.old }
     // An end is blamed only where its count of faults rose.
     ensures read_fault { exit_status result ≡ number_of Answer.ReadFault → Rose (S.faults source.old) (S.faults source.new) }
     ensures write_fault { exit_status result ≡ number_of Answer.WriteFault → Rose (K.faults sink.old) (K.faults sink.new) }

@@ -1,16 +1,19 @@
 //! The top call.
 
-ghost use Rattle.std.specs.Prelude.{◌≡◌, ℕ, ◌≤◌, ◌⊎◌, List, [], length, IfSome, IfOk, OnOk, IfErr};
+ghost use Rattle.std.specs.Prelude.{◌≡◌, ◌↔◌, ℕ, ◌≤◌, ◌⊎◌, Bool, false, true, IsTrue, List, [], length, IfSome, IfOk, OnOk, IfErr};
 ghost use Rattle.std.specs.Option.{option_map};
 ghost use Rattle.io_ends.specs.Ends.{Rose, given, taken_after};
-ghost use Rattle.surface_text.specs.Spelling.{Content};
+ghost use Rattle.surface_text.specs.Spelling.{Content, text as file_text};
 ghost use Rattle.answer_text.specs.declared.status.Status.{Status as Answer};
 ghost use Rattle.answer_text.specs.declared.status.Status.TheVariants.{Done, ReadFault};
 ghost use Rattle.answer_text.specs.Lines.{status_line};
 ghost use Rattle.command_words.specs.declared.command.Command.{Command as CommandValue};
 ghost use Rattle.command_words.specs.Commands.{Names, AreTaken};
+ghost use Rattle.report_text.specs.Reports.{report_text};
+ghost use Rattle.family_gen.specs.Families.{family_of};
 ghost use Rattle.veech_cli.specs.SurfaceFiles.{IsAccepted};
-ghost use Rattle.veech_cli.specs.Owed.{Owes, IsOptional};
+ghost use Rattle.veech_cli.specs.Writings.{summary_text, trial_text};
+ghost use Rattle.veech_cli.specs.Owed.{ReadsInput, Owes, IsOptional};
 ghost use Rattle.veech_cli.specs.Headline.{IsClosed};
 ghost use Rattle.veech_cli.specs.Runs.{SettlesOn, Settles, Delivers, IsInput, SomeInput, IsReadWhole, SaysNothing};
 ghost use Rattle.veech_cli.specs.Surfaces.{IsRefusal, IsRefusalOf};
@@ -18,10 +21,12 @@ ghost use Rattle.veech_cli.specs.Surfaces.{IsRefusal, IsRefusalOf};
 use super::base::base;
 use super::check::check;
 use super::laws::reports_are_closed;
+use super::make::make;
 use super::path::path;
 use super::plain::plain;
 use super::refusal::Refusal;
 use super::region::region;
+use super::trial::trial;
 use super::{Status, WordList};
 use answer_text::fault_line;
 use command_words::{Command, read_command};
@@ -52,9 +57,20 @@ pub fn run_plain<S: Source, K: Sink>(
     // The headline: where `plain` answers Done, the input is a surface file with a base, and what was written is the report of exactly the
     // classes that crossings reach from the base, and of matrices that generate exactly the derivatives of crossing paths that return to
     // an image of the base.
-    ensures headline { (flips limit : ℕ) → Names words.now (CommandValue.Plain flips limit) → result ≡ Status.Done
-        → IfSome (S.left source.old) (λ input. (written : List ℕ) × IsClosed input flips limit written
+    ensures headline { (flips limit : ℕ) → Names words.now (CommandValue.Plain flips limit false) → result ≡ Status.Done
+        → IfSome (S.left source.old) (λ input. (written : List ℕ) × IsClosed (IsAccepted input) flips limit report_text written
         × (K.taken sink.new ≡ taken_after (K.taken sink.old) written)) }
+    // Where it is asked for the summary, what was written is how many these classes and matrices are.
+    ensures summary { (flips limit : ℕ) → Names words.now (CommandValue.Plain flips limit true) → result ≡ Status.Done
+        → IfSome (S.left source.old) (λ input. (written : List ℕ) × IsClosed (IsAccepted input) flips limit summary_text written
+        × (K.taken sink.new ≡ taken_after (K.taken sink.old) written)) }
+    // `trial` writes its number and that summary, for the file of the number, whatever the source has.
+    ensures trial { (flips limit number : ℕ) → Names words.now (CommandValue.Trial flips limit number) → result ≡ Status.Done
+        → (written : List ℕ) × IsClosed (λ file. file ≡ family_of number) flips limit (trial_text number) written
+        × (K.taken sink.new ≡ taken_after (K.taken sink.old) written) }
+    // `make` writes the text of that file.
+    ensures made { (number : ℕ) → Names words.now (CommandValue.Make number) → result ≡ Status.Done
+        → K.taken sink.new ≡ taken_after (K.taken sink.old) (file_text (family_of number)) }
 
     // The other way round: where no end failed and the source tells its bytes, what the command owes the input is answered,
     // but for want of memory. A wide formula that the answer may do without needn't be answered, and may be where it is owed.
@@ -70,14 +86,29 @@ pub fn run_plain<S: Source, K: Sink>(
         → IfSome (S.left source.old) (λ input. (file : Content) → IsAccepted input file
         → (result ≡ Status.Done) ⊎ (result ≡ Status.Memory)) }
 
+    // `make` and `trial` need no source for it: what they owe, they owe whatever the input.
+    ensures complete_unread { (command : CommandValue) → Names words.now command → ¬ (ReadsInput command)
+        → ¬ (Rose (K.faults sink.old) (K.faults sink.new))
+        → (input : List ℕ) (status : Answer) (text : List ℕ) → Owes command input status text
+        → (result ≡ status) ⊎ (result ≡ Status.Memory) ⊎ IsOptional status ⊎ (IsOptional result × ((line : List ℕ) × Owes command input result line)) }
+    // So `make` answers Done.
+    ensures makes { (number : ℕ) → Names words.now (CommandValue.Make number)
+        → ¬ (Rose (K.faults sink.old) (K.faults sink.new))
+        → (result ≡ Status.Done) ⊎ (result ≡ Status.Memory) }
+
     // Words outside the grammar are refused as such, and then nothing is read.
     ensures words { AreTaken words.now → ¬ (result ≡ Status.Words) }
     ensures refused { ¬ (AreTaken words.now) → (result ≡ Status.Words) ⊎ (result ≡ Status.WriteFault) }
     ensures unread { ¬ (AreTaken words.now) → source.new ≡ source.old }
+    // Nor do `make` and `trial` read, so they never blame the source.
+    ensures unread_by_number { (command : CommandValue) → Names words.now command → ¬ (ReadsInput command)
+        → (source.new ≡ source.old) × ¬ (result ≡ Status.ReadFault) }
 
-    // What is read: all of the input, or one byte past the limit, before anything is said of it.
-    ensures all_read { result ≡ Status.Done → S.left source.new ≡ option_map (λ _. []) (S.left source.old) }
-    ensures read_whole { SaysNothing result ⊎ IsReadWhole (S.left source.old) (S.left source.new) }
+    // What is read by the others: all of the input, or one byte past the limit, before anything is said of it.
+    ensures all_read { (command : CommandValue) → Names words.now command → ReadsInput command
+        → result ≡ Status.Done → S.left source.new ≡ option_map (λ _. []) (S.left source.old) }
+    ensures read_whole { (command : CommandValue) → Names words.now command → ReadsInput command
+        → SaysNothing result ⊎ IsReadWhole (S.left source.old) (S.left source.new) }
     ensures reads { (n : ℕ) × (n ≤ 1048577) × (S.left source.new ≡ given n (S.left source.old)) }
 
     // An end is blamed only where its count of faults rose.
@@ -87,6 +118,35 @@ pub fn run_plain<S: Source, K: Sink>(
     ensures sink_never_falls { K.faults sink.old ≤ K.faults sink.new }
 {
     reports_are_closed();
+    run_words(alloc, words, source, sink)
+}
+
+/// Hands out what the words and the input settle. All that a run promises follows.
+fn run_words<S: Source, K: Sink>(
+    alloc: Global,
+    words: &WordList,
+    source: &mut S,
+    sink: &mut K,
+) -> Status
+    ensures outcome { (input : List ℕ) × (status : Answer) × (text : List ℕ)
+        × IsInput (S.left source.old) input
+        × Settles words.now input status text
+        × Delivers status text result (K.taken sink.old) (K.taken sink.new) }
+    ensures words { AreTaken words.now → ¬ (result ≡ Status.Words) }
+    ensures refused { ¬ (AreTaken words.now) → (result ≡ Status.Words) ⊎ (result ≡ Status.WriteFault) }
+    ensures unread { ¬ (AreTaken words.now) → source.new ≡ source.old }
+    ensures unread_by_number { (command : CommandValue) → Names words.now command → ¬ (ReadsInput command)
+        → (source.new ≡ source.old) × ¬ (result ≡ Status.ReadFault) }
+    ensures all_read { (command : CommandValue) → Names words.now command → ReadsInput command
+        → result ≡ Status.Done → S.left source.new ≡ option_map (λ _. []) (S.left source.old) }
+    ensures read_whole { (command : CommandValue) → Names words.now command → ReadsInput command
+        → SaysNothing result ⊎ IsReadWhole (S.left source.old) (S.left source.new) }
+    ensures reads { (n : ℕ) × (n ≤ 1048577) × (S.left source.new ≡ given n (S.left source.old)) }
+    ensures read_fault { result ≡ Status.ReadFault → Rose (S.faults source.old) (S.faults source.new) }
+    ensures write_fault { result ≡ Status.WriteFault → Rose (K.faults sink.old) (K.faults sink.new) }
+    ensures source_never_falls { S.faults source.old ≤ S.faults source.new }
+    ensures sink_never_falls { K.faults sink.old ≤ K.faults sink.new }
+{
     match read_command(alloc, words) {
         Ok(Some(command)) => answer(alloc, command, source, sink),
         Ok(None) => deliver(sink, Status::Words, b"fault words\n"),
@@ -94,7 +154,7 @@ pub fn run_plain<S: Source, K: Sink>(
     }
 }
 
-/// Reads the input, and hands out what the command says to it.
+/// Reads the input, where the command works on it, and hands out what the command says to it.
 fn answer<S: Source, K: Sink>(
     alloc: Global,
     command: Command,
@@ -106,8 +166,9 @@ fn answer<S: Source, K: Sink>(
         × SettlesOn command input status text
         × Delivers status text result (K.taken sink.old) (K.taken sink.new) }
     ensures words { ¬ (result ≡ Status.Words) }
-    ensures all_read { result ≡ Status.Done → S.left source.new ≡ option_map (λ _. []) (S.left source.old) }
-    ensures read_whole { SaysNothing result ⊎ IsReadWhole (S.left source.old) (S.left source.new) }
+    ensures unread { ¬ (ReadsInput command) → (source.new ≡ source.old) × ¬ (result ≡ Status.ReadFault) }
+    ensures all_read { ReadsInput command → result ≡ Status.Done → S.left source.new ≡ option_map (λ _. []) (S.left source.old) }
+    ensures read_whole { ReadsInput command → SaysNothing result ⊎ IsReadWhole (S.left source.old) (S.left source.new) }
     ensures reads { (n : ℕ) × (n ≤ 1048577) × (S.left source.new ≡ given n (S.left source.old)) }
     ensures read_fault { result ≡ Status.ReadFault → Rose (S.faults source.old) (S.faults source.new) }
     ensures write_fault { result ≡ Status.WriteFault → Rose (K.faults sink.old) (K.faults sink.new) }
@@ -134,20 +195,35 @@ fn refuse<K: Sink>(alloc: Global, sink: &mut K, status: Status) -> Status
     }
 }
 
-/// What the command writes for the input of the source, or why there is nothing to write.
+/// What the command writes, for the input of the source where it works on it, or why there is nothing to write.
 fn settle<S: Source>(alloc: Global, command: Command, source: &mut S) -> Result<Vec<u8>, Refusal>
     ensures owed { IfOk result (λ text. SomeInput (S.left source.old) (λ input. Owes command input Done text.items)) }
     ensures refused { IfErr result (λ refusal. SomeInput (S.left source.old)
         (λ input. SettlesOn command input refusal.status (status_line refusal.status))) }
     ensures refusal { IfErr result (λ refusal. IsRefusal refusal.status) }
-    ensures all_read { OnOk result (S.left source.new ≡ option_map (λ _. []) (S.left source.old)) }
-    ensures read_whole { IfErr result (λ refusal. SaysNothing refusal.status ⊎ IsReadWhole (S.left source.old) (S.left source.new)) }
+    ensures unread { ¬ (ReadsInput command) → source.new ≡ source.old }
+    ensures blameless { IfErr result (λ refusal. ¬ (ReadsInput command) → ¬ (refusal.status ≡ ReadFault)) }
+    ensures all_read { OnOk result (ReadsInput command → S.left source.new ≡ option_map (λ _. []) (S.left source.old)) }
+    ensures read_whole { IfErr result (λ refusal. ReadsInput command → SaysNothing refusal.status ⊎ IsReadWhole (S.left source.old) (S.left source.new)) }
     ensures reads { (n : ℕ) × (n ≤ 1048577) × (S.left source.new ≡ given n (S.left source.old)) }
     ensures read_fault { IfErr result (λ refusal. refusal.status ≡ ReadFault → Rose (S.faults source.old) (S.faults source.new)) }
     ensures never_falls { S.faults source.old ≤ S.faults source.new }
 {
+    if !reads_input(&command) {
+        return output(alloc, command, b"");
+    }
     let input = read_all(alloc, source, INPUT_LIMIT)?;
     output(alloc, command, input.as_slice())
+}
+
+/// Whether a command reads the input.
+fn reads_input(command: &Command) -> bool
+    ensures { IsTrue result ↔ ReadsInput command.now }
+{
+    match command {
+        Command::Make { .. } | Command::Trial { .. } => false,
+        _ => true,
+    }
 }
 
 /// What the command writes for an input, or why there is nothing to write.
@@ -161,7 +237,20 @@ fn output(alloc: Global, command: Command, input: &[u8]) -> Result<Vec<u8>, Refu
         Command::Base { flips } => base(alloc, input, flips),
         Command::Region { flips } => region(alloc, input, flips),
         Command::Path { flips, choices } => path(alloc, input, flips, choices.as_slice()),
-        Command::Plain { flips, limit } => plain(alloc, input, flips, limit.number()),
+        Command::Plain {
+            flips,
+            limit,
+            summary,
+        } => plain(alloc, input, flips, limit.number(), summary),
+        Command::Make { number } => {
+            let text = make(alloc, number.number())?;
+            Ok(text)
+        }
+        Command::Trial {
+            flips,
+            limit,
+            number,
+        } => trial(alloc, flips, limit.number(), number.number()),
     }
 }
 

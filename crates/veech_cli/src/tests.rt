@@ -3,6 +3,7 @@
 ghost use Rattle.std.specs.Prelude.{◌≤◌};
 
 mod plain;
+mod trial;
 
 use super::{WordList, run_plain, status_number};
 use io_ends::{MemSink, MemSource};

@@ -7,6 +7,9 @@ use super::{
     LARGE_TORUS, OCTAGON, ROW_CLASS, SHEARED_TORUS, TORUS, TORUS_CLASS, TORUS_TRIANGLES,
     TWO_SQUARES, moving, row_of_squares, run,
 };
+use plane::{Mat2, Vec2, det};
+use quad_field::{Field, Quad};
+use report_text::{ReportFault, print, read_report};
 use std::alloc::{AllocError, Global};
 use std::test::Fail;
 
@@ -123,7 +126,7 @@ fn refuses_reports(rt: HostRuntime) -> Result<(), Fail> {
             2,
             b"fault words\n",
         ),
-        (&["plain", "--summary"], TORUS, 2, b"fault words\n"),
+        (&["plain", "--summarys"], TORUS, 2, b"fault words\n"),
         (&["plain", "--flips", "0"], TORUS, 2, b"fault words\n"),
         (&["plain", "7"], TORUS, 2, b"fault words\n"),
         (&["base", "--limit", "7"], TORUS, 2, b"fault words\n"),
@@ -163,6 +166,54 @@ fn counts_the_classes_of_rows(rt: HostRuntime) -> Result<(), Fail> {
     Ok(())
 }
 
+/// Whether a matrix has determinant 1.
+fn has_determinant_one(f: &Field, m: &Mat2) -> bool {
+    let [a, b, c, d] = *m.entries();
+    let first = Vec2 { s: a, t: b };
+    let second = Vec2 { s: c, t: d };
+    let (Ok(determinant), Some(square)) = (
+        det(f, &first, &second),
+        m.denominator().checked_mul(m.denominator()),
+    ) else {
+        return false;
+    };
+    determinant == Quad { a: square, b: 0 }
+}
+
+/// Whether a report is read back as it was printed, has matrices of determinant 1 alone, and with one class more in its count is
+/// bad in the line behind its classes.
+fn is_read_back(alloc: Global, written: &[u8]) -> Result<bool, AllocError> {
+    let Ok(report) = read_report(alloc, written) else {
+        return Ok(false);
+    };
+    let Some(f) = Field::make(report.field) else {
+        return Ok(false);
+    };
+    for m in &report.mats {
+        if !has_determinant_one(&f, m) {
+            return Ok(false);
+        }
+    }
+    let again = print(alloc, &report)?;
+    let classes = report.codes.len();
+    let front = format!(in alloc;
+        "veech 1\nfield {}\nbase 1/10 11/10\nclasses ",
+        report.field
+    )?;
+    let counted = format!(in alloc; "{front}{classes}")?;
+    let mut more = format!(in alloc; "{front}{}", classes.saturating_add(1))?.into_bytes();
+    let Some(rest) = written.get(counted.len()..) else {
+        return Ok(false);
+    };
+    more.extend_from_slice(rest)?;
+    let line = (classes as u64).saturating_add(5);
+    Ok(
+        again.as_slice() == written
+            && written.starts_with(counted.as_bytes())
+            && read_report(alloc, more.as_slice()).err() == Some(ReportFault::Bad { line }),
+    )
+}
+
 #[test]
 fn closes_every_example(rt: HostRuntime) -> Result<(), Fail> {
     let examples = [
@@ -178,8 +229,7 @@ fn closes_every_example(rt: HostRuntime) -> Result<(), Fail> {
     for input in examples {
         let (ended, written) = run(rt.alloc(), &["plain"], input, roomy())?;
         assert_eq!(rt; ended, 0);
-        assert!(rt; written.starts_with(b"veech 1\nfield "));
-        assert!(rt; written.ends_with(b"\nend\n"));
+        assert!(rt; is_read_back(rt.alloc(), written.as_slice())?);
     }
     Ok(())
 }

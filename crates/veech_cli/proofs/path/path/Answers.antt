@@ -1,15 +1,13 @@
 use Rattle.std.proofs.lemmas.Result.{err_from_is_err_and}
-use Rattle.command_words.specs.declared.command.Command.TheVariants.{Path}
-use Rattle.veech_cli.specs.Owed.{IsPathAnswer}
 use Rattle.answer_text.specs.declared.status.Status.TheVariants.{Done}
-use Rattle.veech_cli.proofs.Based.{owed_from, refused_from, path_refused}
+use Rattle.veech_cli.proofs.Based.{path_owed, path_base_refused, path_refused}
 use Rattle.veech_cli.proofs.path.path.Goals as goal
 
 pub returns-in_err-base-clause-refused : goal.returns-in_err-base-clause-refused
 returns-in_err-base-clause-refused c =
     let p = err_from_is_err_and c.from_residual-in_err-base.result c.from_residual-in_err-base.ensures.1 in
-    rw (p.1, p.2) (refused_from c.args.input.now c.args.flips c.in_ok-surface.surface.bases.items c.in_ok-surface.surface.tri
-    c.in_ok-surface.ensures.made (Path c.args.flips c.args.choices.now) (λ d at. IsPathAnswer d c.args.choices.now) (λ file status text answer. answer) c.in_err-base.field-0.0 c.in_err-base.ensures)
+    rw (p.1, p.2) (path_base_refused c.args.input.now c.args.flips c.in_ok-surface.surface.bases.items c.in_ok-surface.surface.tri
+    c.in_ok-surface.ensures.made c.args.choices.now c.in_err-base.field-0.0 c.in_err-base.ensures)
 
 pub returns-in_err-text-clause-refused : goal.returns-in_err-text-clause-refused
 returns-in_err-text-clause-refused c =
@@ -19,6 +17,6 @@ returns-in_err-text-clause-refused c =
 
 pub returns-clause-owed : goal.returns-clause-owed
 returns-clause-owed c =
-    owed_from c.args.input.now c.args.flips c.in_ok-surface.surface.bases.items c.in_ok-surface.surface.tri
-    c.in_ok-surface.ensures.made (Path c.args.flips c.args.choices.now) (λ d at. IsPathAnswer d c.args.choices.now) (λ file status text answer. answer)
+    path_owed c.args.input.now c.args.flips c.in_ok-surface.surface.bases.items c.in_ok-surface.surface.tri
+    c.in_ok-surface.ensures.made c.args.choices.now
     c.in_ok-base.base c.in_ok-base.ensures Done c.in_ok-text.text.items c.in_ok-text.ensures.answer

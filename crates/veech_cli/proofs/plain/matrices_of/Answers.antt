@@ -1,4 +1,4 @@
-use Rattle.std.proofs.Common.{ℕ, ◌≤◌, length, inl, refl, ap, arith, Err}
+use Rattle.std.proofs.Common.{◌≤◌, length, inl, refl, ap, arith, Err}
 use Rattle.veech_cli.proofs.Grouped.{place_there, targets_there, reached_there, turns_there, first_there, links_there, matrices_there, wide_there}
 use Rattle.veech_cli.proofs.plain.matrices_of.Goals as goal
 

@@ -1,29 +1,27 @@
 use Rattle.std.proofs.lemmas.Result.{err_from_is_err_and}
-use Rattle.command_words.specs.declared.command.Command.TheVariants.{Plain}
-use Rattle.veech_cli.specs.Owed.{IsPlainAnswer}
-use Rattle.answer_text.specs.declared.status.Status.TheVariants.{Done}
-use Rattle.veech_cli.proofs.Based.{owed_from, refused_from, plain_refused, base_point}
+use Rattle.surface_text.specs.Limits.{IsBasePoint}
+use Rattle.veech_cli.proofs.Based.{plain_no_base, plain_no_report, plain_report, base_point}
+use Rattle.std.proofs.Common.{sym, subst}
 use Rattle.veech_cli.proofs.plain.plain.Goals as goal
 
 pub returns-in_err-base-clause-refused : goal.returns-in_err-base-clause-refused
 returns-in_err-base-clause-refused c =
     let p = err_from_is_err_and c.from_residual-in_err-base.result c.from_residual-in_err-base.ensures.1 in
-    rw (p.1, p.2) (refused_from c.args.input.now c.args.flips c.in_ok-surface.surface.bases.items c.in_ok-surface.surface.tri
-    c.in_ok-surface.ensures.made (Plain c.args.flips c.args.limit) (λ d. IsPlainAnswer d c.args.limit) (λ file status text answer. answer) c.in_err-base.field-0.0 c.in_err-base.ensures)
+    rw (p.1, p.2) (plain_no_base c.args.input.now c.args.flips c.in_ok-surface.surface.bases.items c.in_ok-surface.surface.tri
+    c.in_ok-surface.ensures.made c.args.limit c.args.summary c.in_err-base.field-0.0 c.in_err-base.ensures)
 
-pub report_of-requires-clause-point : goal.report_of-requires-clause-point
-report_of-requires-clause-point c =
-    base_point c.args.input.now c.args.flips c.in_ok-surface.surface.bases.items c.in_ok-surface.surface.tri
-    c.in_ok-surface.ensures.made c.in_ok-base.base c.in_ok-base.ensures
+pub returns-in_err-report-clause-refused : goal.returns-in_err-report-clause-refused
+returns-in_err-report-clause-refused c =
+    let p = err_from_is_err_and c.from_residual-in_err-report.result c.from_residual-in_err-report.ensures.1 in
+    rw (p.1, p.2) (plain_no_report c.args.input.now c.args.flips c.in_ok-surface.surface.bases.items c.in_ok-surface.surface.tri
+    c.in_ok-surface.ensures.made c.args.limit c.args.summary c.in_ok-base.base c.in_ok-base.ensures c.in_err-report.field-0.0.status c.in_err-report.ensures.refused)
 
-pub returns-in_err-text-clause-refused : goal.returns-in_err-text-clause-refused
-returns-in_err-text-clause-refused c =
-    let p = err_from_is_err_and c.from_residual-in_err-text.result c.from_residual-in_err-text.ensures.1 in
-    rw (p.1, p.2) (plain_refused c.args.input.now c.args.flips c.in_ok-surface.surface.bases.items c.in_ok-surface.surface.tri
-    c.in_ok-surface.ensures.made c.args.limit c.in_ok-base.base c.in_ok-base.ensures c.in_err-text.field-0.0.status c.in_err-text.ensures.refused)
+pub text_of-requires : goal.text_of-requires
+text_of-requires c =
+    subst IsBasePoint (sym c.in_ok-report.ensures.report.point)
+    (base_point c.args.input.now c.args.flips c.in_ok-surface.surface.bases.items c.in_ok-surface.surface.tri c.in_ok-surface.ensures.made c.in_ok-base.base c.in_ok-base.ensures)
 
 pub returns-clause-owed : goal.returns-clause-owed
 returns-clause-owed c =
-    owed_from c.args.input.now c.args.flips c.in_ok-surface.surface.bases.items c.in_ok-surface.surface.tri
-    c.in_ok-surface.ensures.made (Plain c.args.flips c.args.limit) (λ d. IsPlainAnswer d c.args.limit) (λ file status text answer. answer)
-    c.in_ok-base.base c.in_ok-base.ensures Done c.in_ok-text.text.items c.in_ok-text.ensures.answer
+    plain_report c.args.input.now c.args.flips c.in_ok-surface.surface.bases.items c.in_ok-surface.surface.tri
+    c.in_ok-surface.ensures.made c.args.limit c.args.summary c.in_ok-base.base c.in_ok-base.ensures c.in_ok-report.report c.in_ok-report.ensures.report c.in_ok-text.text.items c.in_ok-text.ensures

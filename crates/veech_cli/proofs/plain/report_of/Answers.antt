@@ -1,9 +1,8 @@
-use Rattle.std.proofs.Common.{ℕ, ◌∙◌, List, inl, inr, refl, ap, sym, subst}
+use Rattle.std.proofs.Common.{ℕ, ◌∙◌, List, inl, inr, refl, sym, subst}
 use Rattle.std.specs.Prelude.{ℤ}
 use Rattle.std.proofs.lemmas.Result.{err_from_is_err_and}
 use Rattle.quad_field.specs.FieldNumber.{IsFieldNumber}
 use Rattle.terrain.specs.Places.{IsAt}
-use Rattle.report_text.specs.Reports.{report_text}
 use Rattle.class_node.specs.Classes.{IsClassOver}
 use Rattle.veech_cli.specs.Surfaces.{RefusesTurns}
 use Rattle.veech_cli.proofs.Grouped.{turns_refuse}
@@ -36,12 +35,10 @@ returns-in_err-mats-clause-refused c =
     let p = err_from_is_err_and c.from_residual-in_err-mats.result c.from_residual-in_err-mats.ensures.1 in
     rw (p.1, p.2) (inr (inr c.in_err-mats.ensures.refused))
 
-pub returns-clause-answer : goal.returns-clause-answer
-returns-clause-answer c = inl (
-  c.in_ok-graph.graph.keys.items,
-  c.in_ok-mats.mats.items,
-  c.in_ok-graph.ensures.classes,
-  c.in_ok-mats.ensures.matrices,
-  refl,
-  c.in_ok-text.ensures ∙ ap (λ (d : ℕ). report_text d c.args.base.now.point c.in_ok-graph.graph.keys.items c.in_ok-mats.mats.items) (c.number-field.ensures.number ∙ c.requires.field),
-)
+pub returns-clause-report : goal.returns-clause-report
+returns-clause-report c = record {
+  field = c.number-field.ensures.number ∙ c.requires.field;
+  point = refl;
+  classes = c.in_ok-graph.ensures.classes;
+  matrices = c.in_ok-mats.ensures.matrices;
+}
