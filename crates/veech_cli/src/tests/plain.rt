@@ -2,6 +2,9 @@
 
 ghost use Rattle.std.specs.Prelude.{◌≤◌};
 
+use super::examples::{
+    DOUBLE_OCTAGON, EIERLEGENDE_WOLLMILCHSAU, L_8, L_12, L_13, L_17_MINUS, L_17_PLUS,
+};
 use super::{
     DOUBLE_PENTAGON, Ends, FLAT_CORNERS, GOLDEN_L, L_CLASS, L_FOUR_SQUARES, L_THREE_SQUARES,
     LARGE_TORUS, OCTAGON, ROW_CLASS, SHEARED_TORUS, TORUS, TORUS_CLASS, TORUS_TRIANGLES,
@@ -225,6 +228,13 @@ fn closes_every_example(rt: HostRuntime) -> Result<(), Fail> {
         OCTAGON,
         GOLDEN_L,
         DOUBLE_PENTAGON,
+        DOUBLE_OCTAGON,
+        EIERLEGENDE_WOLLMILCHSAU,
+        L_8,
+        L_12,
+        L_13,
+        L_17_MINUS,
+        L_17_PLUS,
     ];
     for input in examples {
         let (ended, written) = run(rt.alloc(), &["plain"], input, roomy())?;
