@@ -38,6 +38,6 @@ module _ {H D : Type 0} (own : H → D) (others : H → List D) where
   pub told_more : (all : List H) (i : ℕ) (h h' : H) → IsAt all i h → own h' ≡ own h → others h' ≡ without i (map own all) → AreToldBelow i all → AreToldBelow (i + 1) (set all i h')
   told_more all i h h' at same now below k g less there =
       ⊎_elim
-      (λ (e : (k ≡ i) × (h' ≡ g)). ap others (sym e.1) ∙ now ∙ (λ j. without (e.0 (~ j)) (own_set all i h h' at same (~ j))))
+      (λ (e : (k ≡ i) × (h' ≡ g)). ap others (sym e.1) ∙ now ∙ ap (λ (l : List D). without i l) (sym (own_set all i h h' at same)) ∙ ap (λ (n : ℕ). without n (map own (set all i h'))) (sym e.0))
       (λ (e : (k ≢ i) × IsAt all k g). below k g (let ne = e.0 in omega arith) e.1 ∙ ap (without k) (sym (own_set all i h h' at same)))
       (at_set all i k h' g there)

@@ -16,7 +16,7 @@ module _ {T K L F W : Type 0} {G : terrains.Ghosts T K L F W} {A : numbers.Ghost
   -- the key is reached, and it or one of its walls is stuck by the fault; or the receipt has seen more reached keys than the limit, each once. That memory ran out is claimed of nothing
   abbrev pub IsCause : (Walls : List ℤ → ℕ → Type 0) (Leads : List ℤ → ℕ → List ℤ → L → Type 0) (Stuck : List ℤ → F → Type 0) (StuckAt : List ℤ → ℕ → F → Type 0) (root : List ℤ) (limit : ℕ) → HaltCause T K L F W G A B → Type 0
   IsCause Walls Leads Stuck StuckAt root limit (Wide key fault) = ∥ IsStuckWithin Walls Leads Stuck StuckAt root (B.numbers (arc_value key)) fault ∥₁
-  IsCause Walls Leads Stuck StuckAt root limit (Limit receipt) = (limit < length (seen_by receipt)) × AreReachedOnce Walls Leads root (seen_by receipt)
+  IsCause Walls Leads Stuck StuckAt root limit (Limit receipt) = (limit < length (seen_by receipt.value)) × AreReachedOnce Walls Leads root (seen_by receipt.value)
   IsCause Walls Leads Stuck StuckAt root limit Memory = ⊤
 
   -- a cause is true in one way

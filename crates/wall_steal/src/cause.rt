@@ -6,17 +6,18 @@ use class_shards::Naming;
 use receipt_log::Receipt;
 use std::alloc::Global;
 use std::marker::PhantomData;
+use std::snapshot::Snapshot;
 use std::sync::Arc;
 use terrain::{Numbers, Terrain};
 
-/// A reached key that is stuck, or one of whose walls is; a receipt that has seen more reached keys than the limit; or want of memory.
+/// A reached key that is stuck, or one of whose walls is; a receipt that has seen more reached keys than the limit, which contracts alone read; or want of memory.
 #[derive(Drop)]
 pub enum HaltCause<T: Terrain> {
     Wide {
         key: Arc<T::Key, Global>,
         fault: T::Fault,
     },
-    Limit(Receipt<T::Key>),
+    Limit(Snapshot<Receipt<T::Key>>),
     Memory,
 }
 

@@ -15,6 +15,7 @@ use class_shards::{MeetNo, Met, Naming, Shards, Ticket};
 use io_ends::{Gate, GateStep};
 use std::alloc::Global;
 use std::marker::PhantomData;
+use std::snapshot::Snapshot;
 use std::sync::{Arc, Wait};
 use terrain::{Numbers, Stop, Terrain};
 use walls_out::Count;
@@ -93,8 +94,7 @@ fn meet_target<T: Terrain, N: Naming>(
     match shards.meet(rt, alloc, terrain, count, target, walls, seat) {
         Ok((met, seat)) => {
             if met.count > limit {
-                let Met { receipt, .. } = met;
-                return Err(HaltCause::Limit(receipt));
+                return Err(HaltCause::Limit(Snapshot::of(&met.receipt)));
             }
             let ticket = Ticket {
                 key,
@@ -105,7 +105,7 @@ fn meet_target<T: Terrain, N: Naming>(
             };
             Ok((ticket, met))
         }
-        Err((MeetNo::Full(receipt), _key, _seat)) => Err(HaltCause::Limit(receipt)),
+        Err((MeetNo::Full(receipt), _key, _seat)) => Err(HaltCause::Limit(Snapshot::of(&receipt))),
         Err((MeetNo::Memory, _key, _seat)) => Err(HaltCause::Memory),
     }
 }
