@@ -21,5 +21,5 @@ known_has cause holds (Some x) some = (cause x, refl, holds x)
 
 module _ {T N K L F W : Type 0} {G : terrains.Ghosts T K L F W} {A : numbers.Ghosts T} {B : numbers.Ghosts K} {M : namings.Ghosts N} where
   -- a note knows a cause that is true
-  pub note_knows : (n : HaltNote T N K L F W G A B M) → (c : HaltCause T K L F W G A B) × (noted_cause n ≡ Some c) × IsCause (G.has_walls M.terrain) (G.leads M.terrain) (G.is_stuck M.terrain) (G.is_stuck_at M.terrain) M.root M.limit c
+  pub note_knows : (n : HaltNote T N K L F W G A B M) → (c : HaltCause T K L F W B) × (noted_cause n ≡ Some c) × IsCause (G.has_walls M.terrain) (G.leads M.terrain) (G.is_stuck M.terrain) (G.is_stuck_at M.terrain) M.root M.limit c
   note_knows n = known_has {P = IsCause (G.has_walls M.terrain) (G.leads M.terrain) (G.is_stuck M.terrain) (G.is_stuck_at M.terrain) M.root M.limit} (λ (k : Known T N K L F W G A B M). k.cause) (λ (k : Known T N K L F W G A B M). k.holds) n.note.known n.known

@@ -19,5 +19,5 @@ module _ {T N K L F W : Type 0} {G : terrains.Ghosts T K L F W} {A : numbers.Gho
   noted_cell note = note.note.cell
 
   -- the cause that a note knows
-  abbrev pub noted_cause : HaltNote T N K L F W G A B M → Option (HaltCause T K L F W G A B)
+  abbrev pub noted_cause : HaltNote T N K L F W G A B M → Option (HaltCause T K L F W B)
   noted_cause note = option_map (λ (k : Known T N K L F W G A B M). k.cause) note.note.known

@@ -26,5 +26,5 @@ pub enum HaltCause<T: Terrain> {
 pub(crate) struct Known<T: Terrain, N: Naming> {
     pub(crate) cause: HaltCause<T>,
     pub(crate) of: PhantomData<N>,
-    pub(crate) ghost holds: { IsCause (T.has_walls N.terrain) (T.leads N.terrain) (T.is_stuck N.terrain) (T.is_stuck_at N.terrain) N.root N.limit cause } by { cause_has_one_proof _ _ _ _ _ _ cause },
+    ghost holds: { IsCause (T.has_walls N.terrain) (T.leads N.terrain) (T.is_stuck N.terrain) (T.is_stuck_at N.terrain) N.root N.limit cause } by { cause_has_one_proof (T.has_walls N.terrain) (T.leads N.terrain) (T.is_stuck N.terrain) (T.is_stuck_at N.terrain) N.root N.limit cause },
 }

@@ -1,6 +1,6 @@
 //! Deques for workers.
 
-ghost use Rattle.std.specs.Prelude.{◌≡◌, ◌<◌, ◌≤◌, ℕ, Some, IfOk, OnOk, length, map, slice_get, vec_len};
+ghost use Rattle.std.specs.Prelude.{◌≡◌, ◌≤◌, ℕ, IfOk, map, vec_len};
 ghost use Rattle.terrain.specs.Places.{IsAt};
 ghost use Rattle.wall_steal.specs.Deques.{without, own_deque, deque_behind, other_deques, HasRoom};
 

@@ -1,6 +1,6 @@
 //! A worker's deque and the stealers of all others.
 
-ghost use Rattle.std.specs.Prelude.{◌≡◌, ◌+◌, [], IfOk, IfErr, IfNone, OnOk, OnErr};
+ghost use Rattle.std.specs.Prelude.{◌≡◌, ◌+◌, IfOk, IfErr, IfNone, OnOk, OnErr};
 ghost use Rattle.crossbeam_deque.specs.Handles.{worker_flavor};
 ghost use Rattle.wall_steal.specs.Outcomes.{Tells};
 

@@ -10,6 +10,7 @@ use crossbeam_deque::protocol::{Free, Outcome};
 use crossbeam_deque::{Pass, Steal, Stealer};
 use std::alloc::Global;
 use std::sync::Wait;
+use std::thread;
 use terrain::{Numbers, Terrain};
 
 /// Another worker's deque, and the pass to take from it.
@@ -24,8 +25,7 @@ pub(crate) struct Other<T: Terrain, N: Naming> {
 impl<T: Terrain, N: Naming> Other<T, N> {
     fn steal<M: Outcome<Ticket<T, N>, ()>>(&mut self) -> Steal<Ticket<T, N>>
         requires { Tells M.then M.empty }
-        ensures empty { MatchSteal result (M.empty tt) (Unit {0}) (λ _. Unit {0}) }
-        ensures same { stealer_deque self.new.stealer ≡ stealer_deque self.old.stealer }
+        ensures { MatchSteal result (M.empty tt) (Unit {0}) (λ _. Unit {0}) }
     {
         let Other { stealer, pass } = self;
         stealer.steal_as::<M>(pass)
@@ -37,13 +37,13 @@ impl<T: Terrain, N: Naming> Other<T, N> {
         rt: &R,
     ) -> Option<Ticket<T, N>>
         requires { Tells M.then M.empty }
-        ensures empty { IfNone result (M.empty tt) }
+        ensures { IfNone result (M.empty tt) }
     {
         for _ in rt.forever() {
             match self.steal::<M>() {
                 Steal::Success(ticket) => return Some(ticket),
                 Steal::Empty => return None,
-                Steal::Retry => {}
+                Steal::Retry => thread::yield_now(),
             }
         }
         unreachable!()

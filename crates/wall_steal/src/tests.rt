@@ -1,4 +1,4 @@
-ghost use Rattle.std.specs.Prelude.{◌≡◌, ◌∷◌, [], ◌≤◌, ◌×◌, ◌^◌, ℕ, pos, Some, IfOk, vec_len};
+ghost use Rattle.std.specs.Prelude.{◌≡◌, ◌∷◌, [], ◌≤◌, ◌^◌, ℕ, pos, Some, IfOk, vec_len};
 ghost use Rattle.terrain.specs.Places.{IsAt};
 ghost use Rattle.terrain.specs.Rings.{numbers_of};
 ghost use Rattle.walls_out.specs.Seats.{name_of, count_of, view_of, AreKeepers};

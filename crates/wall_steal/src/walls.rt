@@ -105,8 +105,10 @@ fn meet_target<T: Terrain, N: Naming>(
             };
             Ok((ticket, met))
         }
-        Err((MeetNo::Full(receipt), _key, _seat)) => Err(HaltCause::Limit(Snapshot::of(&receipt))),
-        Err((MeetNo::Memory, _key, _seat)) => Err(HaltCause::Memory),
+        Err((no, _key, _seat)) => match no {
+            MeetNo::Full(receipt) => Err(HaltCause::Limit(Snapshot::of(&receipt))),
+            MeetNo::Memory => Err(HaltCause::Memory),
+        },
     }
 }
 

@@ -1,6 +1,6 @@
 //! One worker.
 
-ghost use Rattle.std.specs.Prelude.{◌≡◌, ◌×◌, ℕ, Some, []};
+ghost use Rattle.std.specs.Prelude.{◌≡◌, ℕ, Some, []};
 ghost use Rattle.walls_out.specs.Seats.{name_of, count_of, view_of};
 ghost use Rattle.walls_out.specs.Views.{saw};
 ghost use Rattle.wall_steal.specs.Causes.{IsCause};
