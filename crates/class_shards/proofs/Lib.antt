@@ -1,3 +1,4 @@
+pub mod CallerLemmas
 pub mod Keepers
 pub mod Stored
 pub mod Indices

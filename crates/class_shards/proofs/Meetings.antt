@@ -1,5 +1,5 @@
 -- A key that a shard meets.
-use Rattle.std.proofs.Common.{◌≡◌, ℕ, suc, ◌+◌, ◌-◌, ◌*◌, ◌<◌, ◌≤◌, List, [], ◌∷◌, ◌++◌, length, Some, refl, sym, ap, ◌∙◌, subst, arith, ⊎_elim, Result, Ok, Err, IfOk}
+use Rattle.std.proofs.Common.{◌≡◌, ◌⊎◌, ℕ, suc, ◌+◌, ◌-◌, ◌*◌, ◌<◌, ◌≤◌, List, [], ◌∷◌, ◌++◌, length, Some, refl, sym, ap, ◌∙◌, subst, arith, ⊎_elim, inl, inr, Result, Ok, Err, IfOk, OnOk}
 use Rattle.std.specs.Prelude.{ℤ, slice_index_or, option_map}
 use Rattle.std.proofs.lemmas.List.{length-map}
 use Rattle.std.proofs.lemmas.Option.{slice_get-map}
@@ -15,6 +15,7 @@ use Rattle.class_shards.specs.Rows.{total}
 use Rattle.class_shards.specs.Agreement.{IsShard}
 use Rattle.terrain.specs.Reach.{IsReached, AreReachedOnce}
 use Rattle.explore_core.specs.Books.{HasKey}
+use Rattle.explore_core.specs.Events.{Adds}
 use Rattle.terrain.proofs.CallerLemmas.{own_reached, at_map, map_at, at_snoc, at_one, read, at_within}
 use Rattle.class_shards.proofs.Agrees.{owes_one}
 use Rattle.class_shards.proofs.NewKey.{slot_of_new, filing_new}
@@ -83,6 +84,15 @@ reached_once {L} Walls Leads shard_of root number rows sound = record {
 pub both_ok : {A E : Type 0} {P Q R : A → Type 0} (r : Result A E) → IfOk r P → IfOk r Q → ((x : A) → P x → Q x → R x) → IfOk r R
 both_ok (Ok x) p q f = f x p q
 both_ok (Err e) p q f = p
+
+-- a key was there before a meet, or it wasn't
+pub there_or_not : {L : Type 0} (Walls : List ℤ → ℕ → Type 0) (k : List ℤ) (before after : List (Row L)) → Adds Walls k before after → HasKey before k ⊎ (HasKey before k → ⊥)
+there_or_not Walls k before after adds = ⊎_elim (λ (was : HasKey before k × (after ≡ before)). inl was.0) (λ (fresh : (HasKey before k → ⊥) × (n : ℕ) × Walls k n × (after ≡ before ++ empty_row k n ∷ [])). inr fresh.0) adds
+
+-- what an Ok says in one case and what it says in the other
+pub either_ok : {A E M H : Type 0} {P Q S R : A → Type 0} (r : Result A E) → (M → H ⊎ (H → ⊥)) → OnOk r M → IfOk r (λ x. H → P x) → IfOk r (λ x. (H → ⊥) → Q x) → IfOk r S → ((x : A) → P x ⊎ Q x → S x → R x) → IfOk r R
+either_ok {A} {E} {M} {H} (Ok x) decides m p q s f = f x (⊎_elim (λ (h : H). inl (p h)) (λ (n : H → ⊥). inr (q n)) (decides m)) s
+either_ok (Err e) decides m p q s f = m
 
 module _ {L : Type 0} (rows : List (Row L)) (k : List ℤ) where
   -- a key that stands at a place is there

@@ -8,6 +8,7 @@ ghost use Rattle.std.specs.Arc.{arc_value};
 ghost use Rattle.terrain.specs.Reach.{IsReached, AreReachedOnce};
 ghost use Rattle.terrain.specs.Places.{IsAt};
 ghost use Rattle.class_shards.specs.Targets.{target_of};
+ghost use Rattle.class_shards.specs.Tickets.{AreNoneOrAll};
 
 use super::Naming;
 use super::lock::{Numbered, fill_in, meet_in, put_shard, take_lock};
@@ -111,10 +112,11 @@ impl<T: Terrain, N: Naming> Shards<T, N> {
         requires plain { (view_of seat).keeper ≡ None }
         requires owes { (e : Entry) × ((view_of seat).owed ≡ e ∷ []) }
         ensures receipt { IfOk result (λ r. ((log_of r.0.receipt) ≡ N.logs (T.shard (T.Key.numbers (arc_value key)))) × IsAt (seen_by r.0.receipt) (place_of r.0.receipt) (T.Key.numbers (arc_value key))) }
-        ensures keys { IfOk result (λ r. (r.0.count ≡ length (seen_by r.0.receipt)) × AreReachedOnce (T.has_walls N.terrain) (T.leads N.terrain) N.root (seen_by r.0.receipt)) }
+        ensures keys { IfOk result (λ r. (r.0.count ≡ length (seen_by r.0.receipt)) × AreReachedOnce (T.has_walls N.terrain) (T.leads N.terrain) N.root (seen_by r.0.receipt) × (r.0.count ≤ N.limit + 1)) }
+        ensures tickets { IfOk result (λ r. AreNoneOrAll (T.Key.numbers (arc_value key)) walls r.0.tickets) }
         ensures seat { IfOk result (λ r. ((count_of r.1) ≡ N.count) × ((view_of r.1).keeper ≡ None) × ((view_of r.1).owed ≡ (view_of seat).owed)) }
         ensures back { IfErr result (λ e. (e.1 ≡ key) × (e.2 ≡ seat)) }
-        ensures full { (r : _) (k : _) (s : _) → result ≡ Err (MeetNo.Full r, k, s) → ((log_of r) ≡ N.logs (T.shard (T.Key.numbers (arc_value key)))) × (length (seen_by r) ≡ N.limit + 1) × AreReachedOnce (T.has_walls N.terrain) (T.leads N.terrain) N.root (seen_by r) }
+        ensures full { (r : _) (k : _) (s : _) → result ≡ Err (MeetNo.Full r, k, s) → ((log_of r) ≡ N.logs (T.shard (T.Key.numbers (arc_value key)))) × (length (seen_by r) ≡ N.limit + 1) × AreReachedOnce (T.has_walls N.terrain) (T.leads N.terrain) N.root (seen_by r) × (place_of r ≡ N.limit) × ((i : ℕ) → IsAt (seen_by r) i (T.Key.numbers (arc_value key)) → ⊥) }
     {
         match terrain.shard_of(&*key) {
             0 => meet_in(rt, alloc, &self.lock_0, terrain, count, key, walls, seat),

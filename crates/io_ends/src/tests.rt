@@ -3,6 +3,7 @@
 use super::*;
 use std::fs::File;
 use std::io;
+use std::sync::atomic::{AtomicU64, Ordering};
 use std::test::Fail;
 
 /// Two readings of "abcdefghij", the first under `limit` and the second under 100, and what they answer.
@@ -178,4 +179,38 @@ fn the_faults_of_std(rt: HostRuntime) -> Result<(), Fail> {
     );
     assert_eq!(rt; &room, b"ab");
     Ok(())
+}
+
+/// A gate that counts the steps before which it stands.
+#[derive(Drop)]
+struct Counter {
+    steps: AtomicU64,
+}
+
+impl Gate for Counter {
+    fn before(&self, _worker: u32, _step: GateStep) {
+        self.steps.fetch_add(1, Ordering::SeqCst);
+    }
+}
+
+fn pass<G: Gate>(gate: &G) {
+    for (worker, step) in [
+        (0, GateStep::Take),
+        (0, GateStep::Cross),
+        (15, GateStep::Meet),
+        (15, GateStep::Fill),
+        (1, GateStep::Look),
+    ] {
+        gate.before(worker, step);
+    }
+}
+
+#[test]
+fn a_gate_lets_every_step_go_on(rt: HostRuntime) {
+    pass(&OpenGate);
+    let counter = Counter {
+        steps: AtomicU64::new(0),
+    };
+    pass(&counter);
+    assert_eq!(rt; counter.steps.load(Ordering::SeqCst), 5);
 }
