@@ -1,13 +1,15 @@
 -- A ticket's wall, and where it leads.
-use Rattle.std.proofs.Common.{◌≡◌, ℕ, zero, suc, ◌<◌, List, [], ◌∷◌, Some}
-use Rattle.std.specs.Prelude.{ℤ, slice_index_or}
+use Rattle.std.proofs.Common.{◌≡◌, ℕ, zero, suc, ◌<◌, List, [], ◌∷◌, ◌∙◌, Some, Result, Ok, Err, sym, subst}
+use Rattle.std.specs.Prelude.{ℤ, slice_index_or, IfErr, IsErrAnd}
 use Rattle.std.specs.Coded.{×_prop, le_prop}
 use mathlib.Core.HLevel.{Σ_prop_path}
 use mathlib.Core.Logic.{∥∥₁_elim, ∥∥₁_map}
 use Rattle.terrain.specs.Places.{IsAt}
 use Rattle.terrain.specs.Reach.{IsReached}
 use Rattle.terrain.proofs.CallerLemmas.{lead_reached}
-use Rattle.class_shards.specs.Entries.{IsSlot}
+use Rattle.class_shards.specs.Entries.{IsSlot, index_in}
+use Rattle.walls_out.specs.declared.entry.Entry.{Entry}
+use Rattle.walls_out.specs.declared.entry.Entry.TheVariants.{Wall}
 
 -- the key has a wall with that number
 abbrev pub HasWall : (List ℤ → ℕ → Type 0) → List ℤ → ℕ → Type 0
@@ -34,3 +36,20 @@ pub read_at : (keys : List (List ℤ)) (i : ℕ) (k : List ℤ) → IsAt keys i 
 read_at [] i k at = cc
 read_at (x ∷ keys) zero k at = cc
 read_at (x ∷ keys) (suc i) k at = read_at keys i k at
+
+-- a seat that owes what another owed owes the same slot's entry
+pub owes_same : (shard : ℕ) (a b : List Entry) → b ≡ a → a ≡ Wall shard (index_in a) ∷ [] → b ≡ Wall shard (index_in b) ∷ []
+owes_same shard a b same owes = subst (λ (l : List Entry). l ≡ Wall shard (index_in l) ∷ []) (sym same) owes
+
+-- and its slot is the same
+pub slot_same : (Walls : List ℤ → ℕ → Type 0) (k : List ℤ) (keys : List (List ℤ)) (place wall : ℕ) (a b : List Entry) → b ≡ a → ∥ IsSlot Walls k keys place wall (index_in a) ∥₁ → ∥ IsSlot Walls k keys place wall (index_in b) ∥₁
+slot_same Walls k keys place wall a b same slot = subst (λ (l : List Entry). ∥ IsSlot Walls k keys place wall (index_in l) ∥₁) (sym same) slot
+
+-- a lead between equal keys
+pub leads_same : {L : Type 0} (Leads : List ℤ → ℕ → List ℤ → L → Type 0) (k k' : List ℤ) (w w' : ℕ) (d d' : List ℤ) (link : L) → k' ≡ k → w' ≡ w → d' ≡ d → Leads k w d link → Leads k' w' d' link
+leads_same Leads k k' w w' d d' link key wall target lead = subst (λ (x : List ℤ × ℕ × List ℤ). Leads x.0 x.1 x.2 link) (λ i. (sym key i, sym wall i, sym target i)) lead
+
+-- what holds of an error holds where the error is passed on
+pub err_passed : {A E : Type 0} (r : Result A E) (P : E → Type 0) (e : E) → IsErrAnd r (λ y. y ≡ e) → P e → IfErr r P
+err_passed (Ok x) P e passed holds = tt
+err_passed (Err y) P e passed holds = subst P (sym passed) holds

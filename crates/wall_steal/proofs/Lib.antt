@@ -1,3 +1,4 @@
 pub mod Crossed
 pub mod Others
 pub mod Notes
+pub mod Steals

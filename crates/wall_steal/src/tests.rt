@@ -1,6 +1,6 @@
 ghost use Rattle.std.specs.Prelude.{◌≡◌, ◌∷◌, [], ◌≤◌, ◌^◌, ℕ, pos, Some, IfOk, vec_len};
 ghost use Rattle.terrain.specs.Places.{IsAt};
-ghost use Rattle.terrain.specs.Rings.{numbers_of};
+ghost use Rattle.terrain.specs.Rings.{numbers_of, IsRingKey};
 ghost use Rattle.walls_out.specs.Seats.{name_of, count_of, view_of, AreKeepers};
 ghost use Rattle.walls_out.specs.Views.{first_seat, keeper_of};
 ghost use Rattle.receipt_log.specs.Logs.{name_of_log, list_of};
@@ -43,27 +43,30 @@ fn empty_logs(alloc: Global) -> Result<Vec<LogKeeper<u32>>, AllocError>
 
 #[test]
 fn one_worker_walks_a_ring(rt: HostRuntime) -> Result<(), Fail> {
-    for (stuck, limit, ends) in [(None, 10, 0), (None, 0, 1), (Some(4), 10, 2)] {
-        let ring = Ring::make(10, stuck);
-        let (count, first, mut keepers) = Count::start(rt.alloc(), 17)?;
-        let Some(keeper) = keepers.pop() else {
-            unreachable!()
-        };
-        let logs = empty_logs(rt.alloc())?;
-        let end = walk::<Brand>(
-            &rt,
-            rt.alloc(),
-            &ring,
-            &count,
-            first,
-            keeper,
-            keepers,
-            logs,
-            limit,
-        )?;
-        assert_eq!(rt; end, ends);
-    }
+    assert_eq!(rt; walk_ring(&rt, rt.alloc(), None, 10)?, 0);
+    assert_eq!(rt; walk_ring(&rt, rt.alloc(), None, 0)?, 1);
+    assert_eq!(rt; walk_ring(&rt, rt.alloc(), Some(4), 10)?, 2);
     Ok(())
+}
+
+/// How a walk of one worker over a ring of ten keys ends.
+fn walk_ring(
+    rt: &(impl Wait + Abort),
+    alloc: Global,
+    stuck: Option<u32>,
+    limit: u32,
+) -> Result<u32, Fail>
+    requires { limit ≤ 10 }
+{
+    let ring = Ring::make(10, stuck);
+    let (count, first, mut keepers) = Count::start(alloc, 17)?;
+    let Some(keeper) = keepers.pop() else {
+        unreachable!()
+    };
+    let logs = empty_logs(alloc)?;
+    walk::<Brand>(
+        rt, alloc, &ring, &count, first, keeper, keepers, logs, limit,
+    )
 }
 
 /// How a walk of one worker from key 0 ends: drained, or halted by the limit, by key 4, or by want of memory.
@@ -81,6 +84,7 @@ fn walk<N: Naming>(
     requires names { (numbers_of ring.now ≡ N.terrain) × (N.root ≡ pos 0 ∷ []) × (limit ≡ N.limit) × (limit ≤ 2 ^ 31) }
     requires count { (name_of count.now ≡ N.count) × (count_of first ≡ N.count) × (count_of keeper ≡ N.count) }
     requires seats { (view_of first ≡ first_seat 17) × (view_of keeper ≡ keeper_of (Some 16)) }
+    requires own { ∥ IsRingKey N.terrain N.root ∥₁ }
     requires len { (vec_len keepers ≡ 16) × (vec_len logs ≡ 16) }
     requires keepers { AreKeepers N.count keepers.items }
     requires logs { (i : ℕ) (l : _) → IsAt logs.items i l → (name_of_log l ≡ N.logs i) × (list_of l ≡ []) }
