@@ -1,1 +1,6 @@
-
+pub mod Appended
+pub mod Apart
+pub mod ShardMore
+pub mod Stored
+pub mod Ranked
+pub mod Graphed

@@ -1,17 +1,13 @@
 -- Ranks: where the keys stand in their order.
 use Rattle.std.specs.Prelude.{◌≡◌, ℕ, ◌+◌, ℤ, List, Option, Some, length}
-use Rattle.terrain.specs.declared.terrains.Terrain as terrains
-use Rattle.terrain.specs.declared.numbers.Numbers as numbers
 use Rattle.terrain.specs.declared.graph.Lead.{Lead}
 use Rattle.terrain.specs.Places.{IsAt}
-use Rattle.class_shards.specs.declared.naming.Naming as namings
 use Rattle.explore_core.specs.Books.{Slot}
 use Rattle.explore_shared.specs.declared.gathered.Gathered.{Gathered}
 
-module _ {T N K L F W : Type 0} {G : terrains.Ghosts T K L F W} {A : numbers.Ghosts T} {B : numbers.Ghosts K} {M : namings.Ghosts N} where
-  -- for the number of each record the place of a record with that number
-  abbrev pub AreRanks : List (Gathered T N K L F W G A B M) → List ℕ → Type 0
-  AreRanks records ranks = (i : ℕ) (g : Gathered T N K L F W G A B M) → IsAt records i g → (j : ℕ) × (h : Gathered T N K L F W G A B M) × IsAt ranks g.number j × IsAt records j h × (h.number ≡ g.number)
+-- for the number of each record the place of a record with that number
+abbrev pub AreRanks : {K R : Type 0} → List (Gathered K R) → List ℕ → Type 0
+AreRanks {K} {R} records ranks = (i : ℕ) (g : Gathered K R) → IsAt records i g → (j : ℕ) × (h : Gathered K R) × IsAt ranks g.number j × IsAt records j h × (h.number ≡ g.number)
 
 -- each key of each log has a number, whose rank is its place among the keys
 abbrev pub Finds : List (List (List ℤ)) → List ℕ → List ℕ → List (List ℤ) → Type 0

@@ -23,14 +23,14 @@ use walls_out::{Count, CountSeat};
 /// The records, and for each shard its log and the number of its first key.
 #[derive(Drop)]
 pub(crate) struct All<T: Terrain, N: Naming> {
-    pub records: Vec<Gathered<T, N>>,
+    pub records: Vec<Gathered<T::Key, Row<T, N>>>,
     pub logs: Vec<LogKeeper<T::Key>>,
     pub starts: Vec<u32>,
 }
 
 /// Puts the keys with their rows behind the records, numbered on.
 fn add_rows<T: Terrain, N: Naming>(
-    records: &mut Vec<Gathered<T, N>>,
+    records: &mut Vec<Gathered<T::Key, Row<T, N>>>,
     keys: Vec<Arc<T::Key, Global>>,
     rows: Vec<Row<T, N>>,
 ) -> Result<(), AllocError>
@@ -39,7 +39,7 @@ fn add_rows<T: Terrain, N: Naming>(
     requires numbered { AreNumbered records.old.items }
     ensures len { OnOk result (vec_len records.new ≡ vec_len records.old + vec_len keys) }
     ensures numbered { OnOk result (AreNumbered records.new.items) }
-    ensures rows { OnOk result (rows_of records.new.items ≡ rows_of records.old.items ++ rows_in T.Key.numbers keys.items rows.items) }
+    ensures rows { OnOk result (rows_of T.Key.numbers records.new.items ≡ rows_of T.Key.numbers records.old.items ++ rows_in T.Key.numbers keys.items rows.items) }
 {
     let mut rows = rows.into_iter();
     for key in keys {
@@ -72,14 +72,14 @@ impl<T: Terrain, N: Naming> All<T, N> {
         requires named { AreNamed N.logs self.old.logs.items }
         requires log { (list_of rest.log ≡ keys_of (rows_in T.Key.numbers rest.keys.items rest.rows.items)) × (name_of_log rest.log ≡ N.logs (vec_len self.old.logs)) }
         requires numbered { AreNumbered self.old.records.items }
-        requires gathered { ∥ AreGathered (T.has_walls N.terrain) (T.leads N.terrain) T.shard N.root (vec_len self.old.logs) (rows_of self.old.records.items) (map list_of self.old.logs.items) self.old.starts.items ∥₁ }
+        requires gathered { ∥ AreGathered (T.has_walls N.terrain) (T.leads N.terrain) T.shard N.root (vec_len self.old.logs) (rows_of T.Key.numbers self.old.records.items) (map list_of self.old.logs.items) self.old.starts.items ∥₁ }
         requires shard { ∥ IsShard (T.has_walls N.terrain) (T.leads N.terrain) T.shard N.root (vec_len self.old.logs) (rows_in T.Key.numbers rest.keys.items rest.rows.items) ∥₁ }
-        requires filled { AreFilled (rows_of self.old.records.items) × AreFilled (rows_in T.Key.numbers rest.keys.items rest.rows.items) }
+        requires filled { AreFilled (rows_of T.Key.numbers self.old.records.items) × AreFilled (rows_in T.Key.numbers rest.keys.items rest.rows.items) }
         ensures len { OnOk result (vec_len self.new.records ≡ vec_len self.old.records + vec_len rest.keys) }
         ensures logs { OnOk result ((vec_len self.new.logs ≡ vec_len self.old.logs + 1) × AreNamed N.logs self.new.logs.items) }
         ensures numbered { OnOk result (AreNumbered self.new.records.items) }
-        ensures gathered { OnOk result (∥ AreGathered (T.has_walls N.terrain) (T.leads N.terrain) T.shard N.root (vec_len self.new.logs) (rows_of self.new.records.items) (map list_of self.new.logs.items) self.new.starts.items ∥₁) }
-        ensures filled { OnOk result (AreFilled (rows_of self.new.records.items)) }
+        ensures gathered { OnOk result (∥ AreGathered (T.has_walls N.terrain) (T.leads N.terrain) T.shard N.root (vec_len self.new.logs) (rows_of T.Key.numbers self.new.records.items) (map list_of self.new.logs.items) self.new.starts.items ∥₁) }
+        ensures filled { OnOk result (AreFilled (rows_of T.Key.numbers self.new.records.items)) }
     {
         let Rest { keys, rows, log } = rest;
         self.starts.push(self.records.len() as u32)?;
@@ -94,14 +94,14 @@ impl<T: Terrain, N: Naming> All<T, N> {
         requires named { AreNamed N.logs self.old.logs.items }
         requires log { (list_of rest.log ≡ keys_of (rows_in T.Key.numbers rest.keys.items rest.rows.items)) × (name_of_log rest.log ≡ N.logs (vec_len self.old.logs)) }
         requires numbered { AreNumbered self.old.records.items }
-        requires gathered { ∥ AreGathered (T.has_walls N.terrain) (T.leads N.terrain) T.shard N.root (vec_len self.old.logs) (rows_of self.old.records.items) (map list_of self.old.logs.items) self.old.starts.items ∥₁ }
+        requires gathered { ∥ AreGathered (T.has_walls N.terrain) (T.leads N.terrain) T.shard N.root (vec_len self.old.logs) (rows_of T.Key.numbers self.old.records.items) (map list_of self.old.logs.items) self.old.starts.items ∥₁ }
         requires shard { ∥ IsShard (T.has_walls N.terrain) (T.leads N.terrain) T.shard N.root (vec_len self.old.logs) (rows_in T.Key.numbers rest.keys.items rest.rows.items) ∥₁ }
-        requires filled { AreFilled (rows_of self.old.records.items) × AreFilled (rows_in T.Key.numbers rest.keys.items rest.rows.items) }
+        requires filled { AreFilled (rows_of T.Key.numbers self.old.records.items) × AreFilled (rows_in T.Key.numbers rest.keys.items rest.rows.items) }
         ensures few { OnOk result (vec_len self.new.records ≤ limit) }
         ensures logs { OnOk result ((vec_len self.new.logs ≡ vec_len self.old.logs + 1) × AreNamed N.logs self.new.logs.items) }
         ensures numbered { OnOk result (AreNumbered self.new.records.items) }
-        ensures gathered { OnOk result (∥ AreGathered (T.has_walls N.terrain) (T.leads N.terrain) T.shard N.root (vec_len self.new.logs) (rows_of self.new.records.items) (map list_of self.new.logs.items) self.new.starts.items ∥₁) }
-        ensures filled { OnOk result (AreFilled (rows_of self.new.records.items)) }
+        ensures gathered { OnOk result (∥ AreGathered (T.has_walls N.terrain) (T.leads N.terrain) T.shard N.root (vec_len self.new.logs) (rows_of T.Key.numbers self.new.records.items) (map list_of self.new.logs.items) self.new.starts.items ∥₁) }
+        ensures filled { OnOk result (AreFilled (rows_of T.Key.numbers self.new.records.items)) }
         ensures limit { result ≡ Err ExploreFault.Limit → MoreAreReached (T.has_walls N.terrain) (T.leads N.terrain) N.root limit }
         ensures fault { (key : T.Key) (fault : T.Fault) → result ≡ Err (ExploreFault.Fault key fault) → ⊥ }
     {
@@ -128,8 +128,8 @@ pub(crate) fn gather<T: Terrain, N: Naming>(
     ensures few { IfOk result (λ all. vec_len all.records ≤ limit) }
     ensures logs { IfOk result (λ all. (vec_len all.logs ≡ 16) × AreNamed N.logs all.logs.items) }
     ensures numbered { IfOk result (λ all. AreNumbered all.records.items) }
-    ensures gathered { IfOk result (λ all. ∥ AreGathered (T.has_walls N.terrain) (T.leads N.terrain) T.shard N.root 16 (rows_of all.records.items) (map list_of all.logs.items) all.starts.items ∥₁) }
-    ensures filled { IfOk result (λ all. AreFilled (rows_of all.records.items)) }
+    ensures gathered { IfOk result (λ all. ∥ AreGathered (T.has_walls N.terrain) (T.leads N.terrain) T.shard N.root 16 (rows_of T.Key.numbers all.records.items) (map list_of all.logs.items) all.starts.items ∥₁) }
+    ensures filled { IfOk result (λ all. AreFilled (rows_of T.Key.numbers all.records.items)) }
     ensures limit { result ≡ Err ExploreFault.Limit → MoreAreReached (T.has_walls N.terrain) (T.leads N.terrain) N.root limit }
     ensures fault { (key : T.Key) (fault : T.Fault) → result ≡ Err (ExploreFault.Fault key fault) → ⊥ }
 {

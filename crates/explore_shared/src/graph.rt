@@ -43,7 +43,7 @@ fn leads_of<T: Terrain, N: Naming>(
     row: Row<T, N>,
     places: &mut Places<T::Key>,
 ) -> Result<Vec<Lead<T::Link>>, AllocError>
-    requires names { AreNamed N.logs places.old.logs.items }
+    requires names { (vec_len places.old.logs ≡ 16) × AreNamed N.logs places.old.logs.items }
     requires finds { (keys : List (List ℤ)) × Finds (map list_of places.old.logs.items) places.old.starts.items places.old.ranks.items keys }
     requires filled { (w : ℕ) → w < length (slots_of row) → (s : _) × IsAt (slots_of row) w (Some s) }
     ensures leads { IfOk result (λ v. (keys : List (List ℤ)) → Finds (map list_of places.old.logs.items) places.old.starts.items places.old.ranks.items keys → AreLeadsOf keys (slots_of row) v.items) }
@@ -71,15 +71,15 @@ fn leads_of<T: Terrain, N: Naming>(
 fn read_records<T: Terrain, N: Naming>(
     alloc: Global,
     terrain: &T,
-    records: Vec<Gathered<T, N>>,
+    records: Vec<Gathered<T::Key, Row<T, N>>>,
     places: &mut Places<T::Key>,
 ) -> Result<(Vec<T::Key>, Vec<Vec<Lead<T::Link>>>), AllocError>
-    requires names { AreNamed N.logs places.old.logs.items }
-    requires finds { Finds (map list_of places.old.logs.items) places.old.starts.items places.old.ranks.items (keys_in records.items) }
-    requires filled { AreFilled (rows_of records.items) }
-    ensures keys { IfOk result (λ r. map T.Key.numbers r.0.items ≡ keys_in records.items) }
+    requires names { (vec_len places.old.logs ≡ 16) × AreNamed N.logs places.old.logs.items }
+    requires finds { Finds (map list_of places.old.logs.items) places.old.starts.items places.old.ranks.items (keys_in T.Key.numbers records.items) }
+    requires filled { AreFilled (rows_of T.Key.numbers records.items) }
+    ensures keys { IfOk result (λ r. map T.Key.numbers r.0.items ≡ keys_in T.Key.numbers records.items) }
     ensures len { IfOk result (λ r. vec_len r.1 ≡ vec_len records) }
-    ensures leads { IfOk result (λ r. (i : ℕ) (g : _) (v : _) → IsAt records.items i g → IsAt (map (λ x. x.items) r.1.items) i v → AreLeadsOf (keys_in records.items) (slots_of g.row) v) }
+    ensures leads { IfOk result (λ r. (i : ℕ) (g : _) (v : _) → IsAt records.items i g → IsAt (map (λ x. x.items) r.1.items) i v → AreLeadsOf (keys_in T.Key.numbers records.items) (slots_of g.row) v) }
 {
     let mut keys = Vec::with_capacity(alloc, records.len())?;
     let mut leads = Vec::with_capacity(alloc, records.len())?;
@@ -106,8 +106,8 @@ pub(crate) fn graph_of<T: Terrain, N: Naming>(
     requires few { vec_len all.records ≤ 2 ^ 31 }
     requires logs { (vec_len all.logs ≡ 16) × AreNamed N.logs all.logs.items }
     requires numbered { AreNumbered all.records.items }
-    requires gathered { ∥ AreGathered (T.has_walls N.terrain) (T.leads N.terrain) T.shard N.root 16 (rows_of all.records.items) (map list_of all.logs.items) all.starts.items ∥₁ }
-    requires filled { AreFilled (rows_of all.records.items) }
+    requires gathered { ∥ AreGathered (T.has_walls N.terrain) (T.leads N.terrain) T.shard N.root 16 (rows_of T.Key.numbers all.records.items) (map list_of all.logs.items) all.starts.items ∥₁ }
+    requires filled { AreFilled (rows_of T.Key.numbers all.records.items) }
     requires root { (log_of root ≡ N.logs shard) × (shard < 16) × (target_of root ≡ N.root) }
     ensures graph { IfOk result (λ g. IsGraph T.order (T.has_walls N.terrain) (T.leads N.terrain) N.root (map T.Key.numbers g.keys.items) (map (λ v. v.items) g.leads.items) g.root) }
     ensures size { IfOk result (λ g. vec_len g.keys ≡ vec_len all.records) }

@@ -1,6 +1,6 @@
 //! Where the targets of slots stand in the order of keys.
 
-ghost use Rattle.std.specs.Prelude.{◌≡◌, ℤ, List, map};
+ghost use Rattle.std.specs.Prelude.{◌≡◌, ◌<◌, ℤ, List, map, vec_len};
 ghost use Rattle.receipt_log.specs.Logs.{list_of, log_of};
 ghost use Rattle.class_shards.specs.Targets.{target_of};
 ghost use Rattle.terrain.specs.Places.{IsAt};
@@ -22,6 +22,7 @@ pub(crate) struct Places<K: Numbers> {
 impl<K: Numbers> Places<K> {
     /// The rank of the key that the receipt is of, which is met with the log of its shard.
     pub(crate) fn rank_of<N: Naming>(&mut self, shard: u32, mut target: Receipt<K>) -> u32
+        requires within { shard < vec_len self.old.logs }
         requires names { AreNamed N.logs self.old.logs.items }
         requires target { log_of target ≡ N.logs shard }
         requires finds { (keys : List (List ℤ)) × Finds (map list_of self.old.logs.items) self.old.starts.items self.old.ranks.items keys }
@@ -30,7 +31,7 @@ impl<K: Numbers> Places<K> {
         ensures same { (map list_of self.new.logs.items ≡ map list_of self.old.logs.items) × (self.new.starts ≡ self.old.starts) × (self.new.ranks ≡ self.old.ranks) }
     {
         self.logs[shard as usize].meet(&mut target);
-        let number = self.starts[shard as usize] + target.place() as u32;
-        self.ranks[number as usize]
+        let number = self.starts[shard as usize] as usize + target.place() as usize;
+        self.ranks[number]
     }
 }

@@ -8,12 +8,11 @@ ghost use Rattle.terrain.specs.Places.{IsAt};
 ghost use Rattle.explore_shared.specs.Ranks.{AreRanks};
 
 use super::gathered::Gathered;
-use class_shards::Naming;
 use std::alloc::{AllocError, Global};
 use terrain::{Numbers, Terrain};
 
 /// The records by ascending keys.
-pub(crate) fn sort_records<T: Terrain, N: Naming>(terrain: &T, records: &mut Vec<Gathered<T, N>>)
+pub(crate) fn sort_records<T: Terrain, R>(terrain: &T, records: &mut Vec<Gathered<T::Key, R>>)
     ensures permutation { IsPermutation records.old.items records.new.items }
     ensures sorted { (i j : ℕ) (x y : _) → i < j → IsAt records.new.items i x → IsAt records.new.items j y → T.order (T.Key.numbers (arc_value y.key)) (T.Key.numbers (arc_value x.key)) ≢ Less }
 {
@@ -21,9 +20,9 @@ pub(crate) fn sort_records<T: Terrain, N: Naming>(terrain: &T, records: &mut Vec
 }
 
 /// The rank of each number: where the record of that number stands.
-pub(crate) fn ranks_of<T: Terrain, N: Naming>(
+pub(crate) fn ranks_of<K, R>(
     alloc: Global,
-    records: &[Gathered<T, N>],
+    records: &[Gathered<K, R>],
 ) -> Result<Vec<u32>, AllocError>
     requires within { (i : ℕ) (g : _) → IsAt records.now i g → g.number < length records.now }
     requires few { length records.now ≤ 2 ^ 32 }
