@@ -15,6 +15,7 @@ use Rattle.terrain.specs.Reach.{LeadsTo, IsReached}
 use Rattle.terrain.specs.Graphs.{IsAscending, IsGraph}
 use Rattle.terrain.proofs.CallerLemmas.{at_within, at_one, read, at_map, map_at, reached_least}
 use Rattle.explore_core.specs.Books.{Slot, Row, keys_of}
+use Rattle.class_shards.specs.Agreement.{AreFilled}
 use Rattle.explore_shared.specs.Gathered.{AreGathered}
 use Rattle.explore_shared.specs.Ranks.{AreLeadsOf}
 use Rattle.explore_shared.proofs.Appended.{contains_at, at_contained}
@@ -31,6 +32,13 @@ module _ {A L : Type 0} (number : A → ℕ) (key : A → List ℤ) (slots : A �
       let r = map_at (λ (x : Row L). x.key) (map row xs) i k at in
       let a = map_at row xs i r.0 r.1 in
       at_map key xs i a.0 a.1 ∙ ap Some (ap (λ (x : Row L). x.key) a.2 ∙ r.2)
+
+  -- slots stay filled in whichever order
+  pub filled_sorted : (before after : List A) → IsPermutation before after → AreFilled (map row before) → AreFilled (map row after)
+  filled_sorted before after same filled i w r at within =
+      let a = map_at row after i r at in
+      let m = was_there before after i a.0 same a.1 in
+      filled m.0 w r (at_map row before m.0 a.0 m.1 ∙ ap Some a.2) within
 
   module _ (order : List ℤ → List ℤ → Ordering) (total : IsTotalOrder order) (exact : (x y : List ℤ) → order x y ≡ Equal → x ≡ y) (Walls : List ℤ → ℕ → Type 0) (Leads : List ℤ → ℕ → List ℤ → L → Type 0) (one_walls : (k : List ℤ) (n m : ℕ) → Walls k n → Walls k m → n ≡ m) (one_lead : (k : List ℤ) (w : ℕ) (d e : List ℤ) (g h : L) → Leads k w d g → Leads k w e h → (d ≡ e) × (g ≡ h)) (shard_of : List ℤ → ℕ) (root : List ℤ) (count : ℕ) (before after : List A) (logs : List (List (List ℤ))) (starts : List ℕ) (g : AreGathered Walls Leads shard_of root count (map row before) logs starts) (same : IsPermutation before after) (numbered : IsNumbered number before) (sorted : (i j : ℕ) (x y : A) → i < j → IsAt after i x → IsAt after j y → order (key y) (key x) ≢ Less) (lists : List (List (Lead L))) (long : length lists ≡ length after) (each : (i : ℕ) (a : A) (v : List (Lead L)) → IsAt after i a → IsAt lists i v → AreLeadsOf (map key after) (slots a) v) where
     was : (i : ℕ) (a : A) → IsAt after i a → (m : ℕ) × IsAt (map row before) m (row a)

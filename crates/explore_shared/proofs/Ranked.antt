@@ -2,12 +2,13 @@
 use Rattle.std.proofs.Common.{◌≡◌, ◌≢◌, ℕ, ◌+◌, ◌<◌, List, length, map, set, Some, sym, ap, ◌∙◌, subst, arith}
 use Rattle.std.specs.Prelude.{ℤ}
 use Rattle.std.specs.List.Sorted.{IsPermutation}
+use Rattle.std.proofs.lemmas.List.Sorted.{length_permutation}
 use mathlib.Core.Logic.{dite}
 use native.Mathlib.Decide.{ℕ_discrete}
 use Rattle.terrain.specs.Places.{IsAt}
 use Rattle.terrain.proofs.CallerLemmas.{at_within, at_one, read, at_map, map_at, set_here, set_else}
 use Rattle.explore_shared.specs.Ranks.{Finds}
-use Rattle.explore_shared.proofs.Apart.{AreApart, still_there, permuted_apart}
+use Rattle.explore_shared.proofs.Apart.{AreApart, still_there, was_there, permuted_apart}
 
 module _ {A : Type 0} (number : A → ℕ) where
   -- the records are numbered by their places
@@ -16,6 +17,15 @@ module _ {A : Type 0} (number : A → ℕ) where
 
   pub numbered_apart : (xs : List A) → IsNumbered xs → AreApart number xs
   numbered_apart xs numbered i j x y at at' same = sym (numbered i x at) ∙ same ∙ numbered j y at'
+
+  -- each number is a place, in whichever order
+  pub numbered_within : (before after : List A) → IsPermutation before after → IsNumbered before → (i : ℕ) (x : A) → IsAt after i x → number x < length after
+  numbered_within before after same numbered i x at =
+      let m = was_there before after i x same at in
+      let e = numbered m.0 x m.1 in
+      let h = at_within before m.0 x m.1 in
+      let l = length_permutation before after same in
+      omega arith
 
   -- for the number of each of the first i there is the place of one with that number
   abbrev pub AreRankedBelow : List A → List ℕ → ℕ → Type 0

@@ -103,11 +103,5 @@ fn explore_named<N: Naming + Send + Sync, R: Threads + Wait + Sync, T: Terrain, 
     let seen = run_workers(rt, alloc, team, &shards, &count, terrain, gate, limit)?;
     let shards = shards.into_shards(alloc)?;
     let all = gather(alloc, &count, shards, seen, limit)?;
-    Ok(graph_of(
-        alloc,
-        terrain,
-        all,
-        receipt,
-        terrain.shard_of(root),
-    )?)
+    Ok(graph_of(alloc, terrain, all, receipt, terrain.shard_of(root))?)
 }

@@ -52,12 +52,14 @@ fn leads_of<T: Terrain, N: Naming>(
 {
     let mut leads = Vec::with_capacity(alloc, row.slots.len())?;
     for slot in row.slots {
-        let Some(Slot {
-            shard,
-            target,
-            link,
-            of: _,
-        }) = slot
+        let Some(
+            Slot {
+                shard,
+                target,
+                link,
+                of: _,
+            },
+        ) = slot
         else {
             unreachable!()
         };
