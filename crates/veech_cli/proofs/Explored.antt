@@ -1,10 +1,11 @@
 -- What an exploration of the classes from a base's code says of the codes that are reached from the base.
 use Rattle.std.proofs.Common.{◌≡◌, ℕ, ◌<◌, ◌≤◌, ◌⊎◌, inl, inr, List, length, map, sym, subst}
-use Rattle.std.specs.Prelude.{◌↔◌, ℤ, Option}
+use Rattle.std.specs.Prelude.{◌↔◌, ℤ, Option, None, Some}
 use Rattle.std.specs.List.{Contains}
 use Rattle.std.specs.Ordering.{int_cmp}
 use Rattle.std.specs.Cmp.Lexicographic.{slice_cmp}
 use Rattle.std.proofs.lemmas.List.{map-id}
+use mathlib.Core.Logic.{∥∥₁_elim, ∥∥₁_prop}
 use Rattle.quad_field.specs.FieldNumber.{IsFieldNumber}
 use Rattle.plane.specs.Matrices.{FieldMatrix}
 use Rattle.tri_core.specs.declared.half.Half.{Half}
@@ -52,15 +53,19 @@ module _ (d : ℕ) (base : List Half) (root : List ℤ) (field : IsFieldNumber d
   pub stuck_class : AreSound → (key : List ℤ) (fault : ClassFault)
       → IsStuckWithin (HasWalls (field_numbers d)) (LeadsBy (field_numbers d)) (IsStuck (field_numbers d)) (IsStuckAt (field_numbers d)) root key fault
       → IsReachedCode d base key × IsWideAtClass d key fault.wall fault.formula
-  stuck_class sound key fault (known, stuck) = (sound (field_numbers d) root base key is_root known, wide stuck)
+  stuck_class sound key fault (known, stuck) = (sound (field_numbers d) root base key is_root known, ∥∥₁_elim (one_proof fault.wall) wide stuck)
     where
+      one_proof : (wall : Option ℕ) → IsProp (IsWideAtClass d key wall fault.formula)
+      one_proof None = ∥∥₁_prop
+      one_proof (Some wall) = ∥∥₁_prop
+
       over : IsStuckOver d key fault → IsWideAtClass d key fault.wall fault.formula
-      over (none, at) = subst (λ (wall : Option ℕ). IsWideAtClass d key wall fault.formula) (sym none) at
+      over (none, at) = subst (λ (wall : Option ℕ). IsWideAtClass d key wall fault.formula) (sym none) ∣ at ∣₁
 
       wide : IsStuck (field_numbers d) key fault ⊎ ((n w : ℕ) × HasWalls (field_numbers d) key n × (w < n) × IsStuckAt (field_numbers d) key w fault) → IsWideAtClass d key fault.wall fault.formula
       wide (inl own) = over own
       wide (inr (n, w, has, within, inl own)) = over own
-      wide (inr (n, w, has, within, inr (some, at))) = subst (λ (wall : Option ℕ). IsWideAtClass d key wall fault.formula) (sym some) at
+      wide (inr (n, w, has, within, inr (some, at))) = subst (λ (wall : Option ℕ). IsWideAtClass d key wall fault.formula) (sym some) ∣ at ∣₁
 
 -- a graph of the terrain over a field that is that of the base is one over the base's
 pub graph_over : (t d : ℕ) → t ≡ d → (root : List ℤ) (codes : List (List ℤ)) (rows : List (List (Lead FieldMatrix))) (place : ℕ)

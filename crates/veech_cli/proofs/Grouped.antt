@@ -108,7 +108,7 @@ turns_done d codes turns n are e = record { as_many = are.count ∙ e; each = ar
 
 -- a class that refuses its turns is a reached one, at which F1 is wide
 pub turns_refuse : (d : ℕ) (base : List Half) (limit : ℕ) (codes : List (List ℤ)) (status : Status) → AreClassesWithin d base limit codes → RefusesTurns d codes status → RefusesClasses d base limit status
-turns_refuse d base limit codes status are (inl (code, held, wide, is)) = inl (F1, code, None, (are.reached code).0 held, wide, is)
+turns_refuse d base limit codes status are (inl (code, held, wide, is)) = inl (F1, code, None, (are.reached code).0 held, ∣ wide ∣₁, is)
 turns_refuse d base limit codes status are (inr is) = inr (inr is)
 
 -- what refuses the turns of one of the classes refuses those of all

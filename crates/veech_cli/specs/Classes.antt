@@ -24,7 +24,7 @@ pub record MoreAreReachedCodes (d : ℕ) (base : List Half) (limit : ℕ) : Type
   pub once : (i j : ℕ) (code : List ℤ) → IsAt codes i code → IsAt codes j code → i ≡ j
   pub reached : (i : ℕ) (code : List ℤ) → IsAt codes i code → IsReachedCode d base code
 
--- a formula is wide at a class: at its canonical triangulation, or at this wall of it
+-- a formula is wide at a class, wherever it is: at its canonical triangulation, or at this wall of it
 abbrev pub IsWideAtClass : ℕ → List ℤ → Option ℕ → Formula → Type 0
-IsWideAtClass d code None formula = IsWideAt d (canonical d code) formula
-IsWideAtClass d code (Some wall) formula = IsWideAtWall d code wall formula
+IsWideAtClass d code None formula = ∥ IsWideAt d (canonical d code) formula ∥₁
+IsWideAtClass d code (Some wall) formula = ∥ IsWideAtWall d code wall formula ∥₁

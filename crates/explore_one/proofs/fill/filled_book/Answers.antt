@@ -24,7 +24,7 @@ returns-in_err-book-clause-fault g c key fault e =
     let f = err_is c.from_residual.result p.0 c.in_err-book.field-0.0 (Fault key fault) p.1 p.2 e in
     let r = c.in_err-book.ensures.fault key fault (ap (λ x. Err x) f) in
     let n = ap numbers (sym r.0) in
-    (subst (IsReached (g.T.Terrain.has_walls t) (g.T.Terrain.leads t) (numbers c.args.root.now)) n (root_reached (g.T.Terrain.has_walls t) (g.T.Terrain.leads t) (numbers c.args.root.now)), inl (subst (λ x. g.T.Terrain.is_stuck t x fault) n r.1))
+    (subst (IsReached (g.T.Terrain.has_walls t) (g.T.Terrain.leads t) (numbers c.args.root.now)) n (root_reached (g.T.Terrain.has_walls t) (g.T.Terrain.leads t) (numbers c.args.root.now)), ∣ inl (subst (λ x. g.T.Terrain.is_stuck t x fault) n r.1) ∣₁)
 
 pub returns-in_err-fill_slots-clause-limit : goal.returns-in_err-fill_slots-clause-limit
 returns-in_err-fill_slots-clause-limit g c e =

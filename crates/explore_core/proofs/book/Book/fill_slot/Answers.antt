@@ -28,7 +28,7 @@ returns-in_err-to-clause-fault g c key fault e =
     let f = err_is c.from_residual-in_err-to.result p.0 c.in_err-to.field-0.0 (Fault key fault) p.1 p.2 e in
     let r = c.in_err-to.ensures.fault key fault (ap (λ x. Err x) f) in
     let n = ap numbers (sym r.0) in
-    (subst (IsReached (g.T.Terrain.has_walls t) (g.T.Terrain.leads t) (numbers c.args.self.now.root.value)) n c.in_ok-key.ensures.reached, inl (subst (λ x. g.T.Terrain.is_stuck t x fault) n r.1))
+    (subst (IsReached (g.T.Terrain.has_walls t) (g.T.Terrain.leads t) (numbers c.args.self.now.root.value)) n c.in_ok-key.ensures.reached, ∣ inl (subst (λ x. g.T.Terrain.is_stuck t x fault) n r.1) ∣₁)
 
 pub returns-then-is_filled-clause-done : goal.returns-then-is_filled-clause-done
 returns-then-is_filled-clause-done g c =

@@ -23,5 +23,5 @@ returns-in_ok-key-in-Err-Fault-clause-fault g c key fault e =
     let f : c.in-Err-Fault.fault ≡ fault = cc in
     let n = ap numbers (sym c.in_ok-key-in-Err-Fault.ensures ∙ k) in (
       subst (IsReached (g.T.Terrain.has_walls t) (g.T.Terrain.leads t) (numbers book.root.value)) n (key_reached _ _ _ rows book.sound c.args.place (row_of numbers found) at),
-      inr (length (row_of numbers found).slots, c.args.wall, subst (λ x. g.T.Terrain.has_walls t x (length (row_of numbers found).slots)) n (key_walls _ _ _ rows book.sound (laws.walls_proofs_agree t) c.args.place (row_of numbers found) at), subst (λ (r : Row _). c.args.wall < length r.slots) (at_one rows c.args.place c.requires.slot.0 (row_of numbers found) c.requires.slot.1 at) c.requires.slot.2, subst (g.T.Terrain.is_stuck_at t (numbers key) c.args.wall) f (subst (λ x. g.T.Terrain.is_stuck_at t x c.args.wall c.in-Err-Fault.fault) (same ∙ n) s.2)),
+      ∣ inr (length (row_of numbers found).slots, c.args.wall, subst (λ x. g.T.Terrain.has_walls t x (length (row_of numbers found).slots)) n (key_walls _ _ _ rows book.sound (laws.walls_proofs_agree t) c.args.place (row_of numbers found) at), subst (λ (r : Row _). c.args.wall < length r.slots) (at_one rows c.args.place c.requires.slot.0 (row_of numbers found) c.requires.slot.1 at) c.requires.slot.2, subst (g.T.Terrain.is_stuck_at t (numbers key) c.args.wall) f (subst (λ x. g.T.Terrain.is_stuck_at t x c.args.wall c.in-Err-Fault.fault) (same ∙ n) s.2)) ∣₁,
     )
