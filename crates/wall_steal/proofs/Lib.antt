@@ -1,0 +1,5 @@
+pub mod Crossed
+pub mod Each
+pub mod Others
+pub mod Notes
+pub mod Steals
