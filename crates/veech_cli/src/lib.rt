@@ -3,6 +3,7 @@
 
 mod base;
 mod check;
+mod group;
 pub mod laws;
 mod make;
 mod path;
@@ -13,11 +14,13 @@ mod region;
 mod run;
 mod surface;
 mod trial;
+mod workers;
 
 pub use answer_text::{NoCause, Place, Status, status_number};
 pub use command_words::WordList;
 pub use program::run_program;
 pub use run::run_plain;
+pub use workers::run;
 
 #[cfg(test)]
 mod tests;

@@ -1,6 +1,6 @@
-//! The top call.
+//! The top call on one thread.
 
-ghost use Rattle.std.specs.Prelude.{◌≡◌, ◌↔◌, ℕ, ◌≤◌, ◌⊎◌, Bool, false, true, IsTrue, List, [], length, IfSome, IfOk, OnOk, IfErr};
+ghost use Rattle.std.specs.Prelude.{◌≡◌, ◌↔◌, ℕ, ◌≤◌, ◌⊎◌, Bool, false, true, IsTrue, List, [], length, Ok, None, IfSome, IfOk, OnOk, IfErr, MatchOption};
 ghost use Rattle.std.specs.Option.{option_map};
 ghost use Rattle.io_ends.specs.Ends.{Rose, given, taken_after};
 ghost use Rattle.surface_text.specs.Spelling.{Content, text as file_text};
@@ -8,14 +8,14 @@ ghost use Rattle.answer_text.specs.declared.status.Status.{Status as Answer};
 ghost use Rattle.answer_text.specs.declared.status.Status.TheVariants.{Done, ReadFault};
 ghost use Rattle.answer_text.specs.Lines.{status_line};
 ghost use Rattle.command_words.specs.declared.command.Command.{Command as CommandValue};
-ghost use Rattle.command_words.specs.Commands.{Names, AreTaken};
+ghost use Rattle.command_words.specs.Commands.{Names, AreTaken, NameGroup};
 ghost use Rattle.report_text.specs.Reports.{report_text};
 ghost use Rattle.family_gen.specs.Families.{family_of};
 ghost use Rattle.veech_cli.specs.SurfaceFiles.{IsAccepted};
 ghost use Rattle.veech_cli.specs.Writings.{summary_text, trial_text};
 ghost use Rattle.veech_cli.specs.Owed.{ReadsInput, Owes, IsOptional};
 ghost use Rattle.veech_cli.specs.Headline.{IsClosed};
-ghost use Rattle.veech_cli.specs.Runs.{SettlesOn, Settles, Delivers, IsInput, SomeInput, IsReadWhole, SaysNothing};
+ghost use Rattle.veech_cli.specs.Runs.{IsPlainCommand, NameOne, SettlesOn, Settles, Delivers, IsInput, SomeInput, IsReadWhole, SaysNothing};
 ghost use Rattle.veech_cli.specs.Surfaces.{IsRefusal, IsRefusalOf};
 
 use super::base::base;
@@ -34,9 +34,10 @@ use io_ends::{Sink, Source, WriteFault, read_all, write_all};
 use std::alloc::{AllocError, Global};
 
 /// The most bytes that an input may have.
-const INPUT_LIMIT: usize = 1_048_576;
+pub(crate) const INPUT_LIMIT: usize = 1_048_576;
 
-/// Runs the command that the words name on the bytes of the source, and writes its text to the sink.
+/// Runs the command that the words name on the bytes of the source, and writes its text to the sink. It has no workers, and waits for
+/// nobody: `group` it refuses, as it does words that name nothing.
 ///
 /// The words are checked before anything is read. The source is read to its end, or to one byte past the limit,
 /// before the input is looked at. All output is composed before the first byte is written, and a refusal writes
@@ -51,7 +52,7 @@ pub fn run_plain<S: Source, K: Sink>(
     // the status and the text that the command owes the input, a failure with its line, or the refusal of the words.
     ensures outcome { (input : List ℕ) × (status : Answer) × (text : List ℕ)
         × IsInput (S.left source.old) input
-        × Settles words.now input status text
+        × Settles IsPlainCommand words.now input status text
         × Delivers status text result (K.taken sink.old) (K.taken sink.new) }
 
     // The headline: where `plain` answers Done, the input is a surface file with a base, and what was written is the report of exactly the
@@ -74,7 +75,7 @@ pub fn run_plain<S: Source, K: Sink>(
 
     // The other way round: where no end failed and the source tells its bytes, what the command owes the input is answered,
     // but for want of memory. A wide formula that the answer may do without needn't be answered, and may be where it is owed.
-    ensures complete { (command : CommandValue) → Names words.now command
+    ensures complete { (command : CommandValue) → Names words.now command → IsPlainCommand command
         → ¬ (Rose (S.faults source.old) (S.faults source.new))
         → ¬ (Rose (K.faults sink.old) (K.faults sink.new))
         → IfSome (S.left source.old) (λ input. (status : Answer) (text : List ℕ) → Owes command input status text
@@ -96,10 +97,11 @@ pub fn run_plain<S: Source, K: Sink>(
         → ¬ (Rose (K.faults sink.old) (K.faults sink.new))
         → (result ≡ Status.Done) ⊎ (result ≡ Status.Memory) }
 
-    // Words outside the grammar are refused as such, and then nothing is read.
-    ensures words { AreTaken words.now → ¬ (result ≡ Status.Words) }
+    // Words outside the grammar are refused as such, and so are those that name `group`. Then nothing is read.
+    ensures words { NameOne IsPlainCommand words.now → ¬ (result ≡ Status.Words) }
     ensures refused { ¬ (AreTaken words.now) → (result ≡ Status.Words) ⊎ (result ≡ Status.WriteFault) }
-    ensures unread { ¬ (AreTaken words.now) → source.new ≡ source.old }
+    ensures refused_group { NameGroup words.now → (result ≡ Status.Words) ⊎ (result ≡ Status.WriteFault) ⊎ (result ≡ Status.Memory) }
+    ensures unread { ¬ (NameOne IsPlainCommand words.now) → source.new ≡ source.old }
     // Nor do `make` and `trial` read, so they never blame the source.
     ensures unread_by_number { (command : CommandValue) → Names words.now command → ¬ (ReadsInput command)
         → (source.new ≡ source.old) × ¬ (result ≡ Status.ReadFault) }
@@ -130,11 +132,12 @@ fn run_words<S: Source, K: Sink>(
 ) -> Status
     ensures outcome { (input : List ℕ) × (status : Answer) × (text : List ℕ)
         × IsInput (S.left source.old) input
-        × Settles words.now input status text
+        × Settles IsPlainCommand words.now input status text
         × Delivers status text result (K.taken sink.old) (K.taken sink.new) }
-    ensures words { AreTaken words.now → ¬ (result ≡ Status.Words) }
+    ensures words { NameOne IsPlainCommand words.now → ¬ (result ≡ Status.Words) }
     ensures refused { ¬ (AreTaken words.now) → (result ≡ Status.Words) ⊎ (result ≡ Status.WriteFault) }
-    ensures unread { ¬ (AreTaken words.now) → source.new ≡ source.old }
+    ensures refused_group { NameGroup words.now → (result ≡ Status.Words) ⊎ (result ≡ Status.WriteFault) ⊎ (result ≡ Status.Memory) }
+    ensures unread { ¬ (NameOne IsPlainCommand words.now) → source.new ≡ source.old }
     ensures unread_by_number { (command : CommandValue) → Names words.now command → ¬ (ReadsInput command)
         → (source.new ≡ source.old) × ¬ (result ≡ Status.ReadFault) }
     ensures all_read { (command : CommandValue) → Names words.now command → ReadsInput command
@@ -147,10 +150,21 @@ fn run_words<S: Source, K: Sink>(
     ensures source_never_falls { S.faults source.old ≤ S.faults source.new }
     ensures sink_never_falls { K.faults sink.old ≤ K.faults sink.new }
 {
-    match read_command(alloc, words) {
+    match read_plain_command(alloc, words) {
         Ok(Some(command)) => answer(alloc, command, source, sink),
         Ok(None) => deliver(sink, Status::Words, b"fault words\n"),
         Err(AllocError) => deliver(sink, Status::Memory, b"fault memory\n"),
+    }
+}
+
+/// The command that the words name, where it needs no workers: none exactly where they name no such command.
+fn read_plain_command(alloc: Global, words: &WordList) -> Result<Option<Command>, AllocError>
+    ensures named { IfOk result (λ found. MatchOption found (¬ (NameOne IsPlainCommand words.now)) (λ command. Names words.now command × IsPlainCommand command)) }
+    ensures refused { ¬ (AreTaken words.now) → result ≡ Ok None }
+{
+    match read_command(alloc, words)? {
+        Some(Command::Group { .. }) => Ok(None),
+        found => Ok(found),
     }
 }
 
@@ -161,6 +175,7 @@ fn answer<S: Source, K: Sink>(
     source: &mut S,
     sink: &mut K,
 ) -> Status
+    requires { IsPlainCommand command }
     ensures outcome { (input : List ℕ) × (status : Answer) × (text : List ℕ)
         × IsInput (S.left source.old) input
         × SettlesOn command input status text
@@ -182,7 +197,7 @@ fn answer<S: Source, K: Sink>(
 }
 
 /// Writes the line of a refusal, or of want of memory where there is none for it.
-fn refuse<K: Sink>(alloc: Global, sink: &mut K, status: Status) -> Status
+pub(crate) fn refuse<K: Sink>(alloc: Global, sink: &mut K, status: Status) -> Status
     requires { IsRefusal status }
     ensures delivered { (settled : Answer) × ((settled ≡ status) ⊎ (settled ≡ Answer.Memory))
         × Delivers settled (status_line settled) result (K.taken sink.old) (K.taken sink.new) }
@@ -197,6 +212,7 @@ fn refuse<K: Sink>(alloc: Global, sink: &mut K, status: Status) -> Status
 
 /// What the command writes, for the input of the source where it works on it, or why there is nothing to write.
 fn settle<S: Source>(alloc: Global, command: Command, source: &mut S) -> Result<Vec<u8>, Refusal>
+    requires { IsPlainCommand command }
     ensures owed { IfOk result (λ text. SomeInput (S.left source.old) (λ input. Owes command input Done text.items)) }
     ensures refused { IfErr result (λ refusal. SomeInput (S.left source.old)
         (λ input. SettlesOn command input refusal.status (status_line refusal.status))) }
@@ -228,7 +244,8 @@ fn reads_input(command: &Command) -> bool
 
 /// What the command writes for an input, or why there is nothing to write.
 fn output(alloc: Global, command: Command, input: &[u8]) -> Result<Vec<u8>, Refusal>
-    requires { length input.now ≤ 1048576 }
+    requires input { length input.now ≤ 1048576 }
+    requires plain { IsPlainCommand command }
     ensures owed { IfOk result (λ text. Owes command input.now Done text.items) }
     ensures refused { IfErr result (λ refusal. IsRefusalOf command input.now refusal.status) }
 {
@@ -242,6 +259,7 @@ fn output(alloc: Global, command: Command, input: &[u8]) -> Result<Vec<u8>, Refu
             limit,
             summary,
         } => plain(alloc, input, flips, limit.number(), summary),
+        Command::Group { .. } => unreachable!(),
         Command::Make { number } => {
             let text = make(alloc, number.number())?;
             Ok(text)
@@ -255,7 +273,7 @@ fn output(alloc: Global, command: Command, input: &[u8]) -> Result<Vec<u8>, Refu
 }
 
 /// Writes a text, and answers its status, or that the sink failed.
-fn deliver<K: Sink>(sink: &mut K, status: Status, text: &[u8]) -> Status
+pub(crate) fn deliver<K: Sink>(sink: &mut K, status: Status, text: &[u8]) -> Status
     ensures delivered { Delivers status text.now result (K.taken sink.old) (K.taken sink.new) }
     ensures fault { result ≡ Status.WriteFault → (status ≡ Status.WriteFault) ⊎ Rose (K.faults sink.old) (K.faults sink.new) }
     ensures never_falls { K.faults sink.old ≤ K.faults sink.new }
