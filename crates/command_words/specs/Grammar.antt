@@ -11,6 +11,10 @@ flips_option = record { name = codes "flips"; numbers = Some (record { least = 1
 abbrev pub limit_option : OptionRow
 limit_option = record { name = codes "limit"; numbers = Some (record { least = 1; most = 2048; unless_given = 1024 }) }
 
+-- the workers that share the exploration: from 1 to 16, and 4 unless given
+abbrev pub workers_option : OptionRow
+workers_option = record { name = codes "workers"; numbers = Some (record { least = 1; most = 16; unless_given = 4 }) }
+
 -- a flag: the summary in place of the report
 abbrev pub summary_option : OptionRow
 summary_option = record { name = codes "summary"; numbers = None }
@@ -42,6 +46,10 @@ path_row = record { word = codes "path"; options = flips_option ∷ []; plain = 
 -- `plain [--flips N] [--limit K] [--summary]`
 abbrev pub plain_row : CommandRow
 plain_row = record { word = codes "plain"; options = flips_option ∷ limit_option ∷ summary_option ∷ []; plain = no_plain }
+
+-- `group [--flips N] [--limit K] [--workers W]`
+abbrev pub group_row : CommandRow
+group_row = record { word = codes "group"; options = flips_option ∷ limit_option ∷ workers_option ∷ []; plain = no_plain }
 
 -- `make N`
 abbrev pub make_row : CommandRow

@@ -2,14 +2,16 @@
 
 ghost use Rattle.std.specs.Prelude.{◌≡◌, map, string_bytes, MatchOption, IfOk};
 ghost use Rattle.command_words.specs.Lines.{IsTaken};
-ghost use Rattle.command_words.specs.Grammar.{check_row, base_row, region_row, path_row, plain_row, make_row, trial_row};
+ghost use Rattle.command_words.specs.Grammar.{check_row, base_row, region_row, path_row, plain_row, group_row, make_row, trial_row};
 ghost use Rattle.command_words.specs.Commands.{Names, AreTaken};
 
-use super::grammar::{BASE, CHECK, FLIPS, LIMIT, MAKE, PATH, PLAIN, REGION, SUMMARY, TRIAL};
+use super::grammar::{
+    BASE, CHECK, FLIPS, GROUP, LIMIT, MAKE, PATH, PLAIN, REGION, SUMMARY, TRIAL, WORKERS,
+};
 use super::lines::is_line;
 use super::parsing::parse;
 use super::values::{choices_of, is_set, number_of, value_of};
-use super::{Choices, ClassLimit, FamilyNumber, WordList};
+use super::{Choices, ClassLimit, FamilyNumber, WordList, WorkerNumber};
 use std::alloc::{AllocError, Global};
 
 /// A command with what its words say.
@@ -35,6 +37,12 @@ pub enum Command {
         flips: u32,
         limit: ClassLimit,
         summary: bool,
+    },
+    /// The same as `plain`, found by so many workers.
+    Group {
+        flips: u32,
+        limit: ClassLimit,
+        workers: WorkerNumber,
     },
     /// The file of a surface of the families.
     Make {
@@ -70,6 +78,9 @@ pub fn read_command(alloc: Global, words: &WordList) -> Result<Option<Command>, 
     }
     if is_line(&PLAIN, words) {
         return Ok(Some(plain(alloc, words)?));
+    }
+    if is_line(&GROUP, words) {
+        return Ok(Some(group(alloc, words)?));
     }
     if is_line(&MAKE, words) {
         return Ok(Some(make(alloc, words)?));
@@ -133,6 +144,22 @@ fn plain(alloc: Global, words: &[String]) -> Result<Command, AllocError>
         flips,
         limit: ClassLimit::new(limit),
         summary,
+    })
+}
+
+/// The command of a line of `group`.
+fn group(alloc: Global, words: &[String]) -> Result<Command, AllocError>
+    requires { IsTaken group_row (map string_bytes words.now) }
+    ensures { IfOk result (Names (map string_bytes words.now)) }
+{
+    let matches = parse(alloc, &GROUP, words)?;
+    let flips = number_of(&matches, &FLIPS);
+    let limit = number_of(&matches, &LIMIT);
+    let workers = number_of(&matches, &WORKERS);
+    Ok(Command::Group {
+        flips,
+        limit: ClassLimit::new(limit),
+        workers: WorkerNumber::new(workers),
     })
 }
 

@@ -22,6 +22,16 @@ pub(crate) const LIMIT: OptionRow = OptionRow {
     }),
 };
 
+/// How many workers share the exploration.
+pub(crate) const WORKERS: OptionRow = OptionRow {
+    name: "workers",
+    numbers: Some(NumberBounds {
+        least: 1,
+        most: 16,
+        unless_given: 4,
+    }),
+};
+
 /// A flag: the summary is printed in place of the report.
 pub(crate) const SUMMARY: OptionRow = OptionRow {
     name: "summary",
@@ -78,6 +88,13 @@ pub(crate) const PATH: CommandRow = CommandRow {
 pub(crate) const PLAIN: CommandRow = CommandRow {
     word: "plain",
     options: &[FLIPS, LIMIT, SUMMARY],
+    plain: NO_PLAIN,
+};
+
+/// `group [--flips N] [--limit K] [--workers W]`.
+pub(crate) const GROUP: CommandRow = CommandRow {
+    word: "group",
+    options: &[FLIPS, LIMIT, WORKERS],
     plain: NO_PLAIN,
 };
 

@@ -14,9 +14,11 @@ mod parsing;
 mod rows;
 mod values;
 mod words;
+mod worker_number;
 
 pub use choices::Choices;
 pub use class_limit::ClassLimit;
 pub use command::{Command, read_command};
 pub use family_number::FamilyNumber;
 pub use words::WordList;
+pub use worker_number::WorkerNumber;
