@@ -8,6 +8,7 @@ use Rattle.command_words.specs.Commands.{Names, AreTaken, NameGroup}
 use Rattle.command_words.proofs.CallerLemmas.{one_command}
 use Rattle.veech_cli.specs.Owed.{ReadsInput}
 use Rattle.veech_cli.specs.Runs.{IsCommand, IsPlainCommand, NameOne, Settles}
+use Rattle.veech_cli.specs.declared.workers.Asked.{Asked}
 
 -- a command that reads nothing needs no workers
 pub plain_unless_reads : (command : Command) → ¬ (ReadsInput command) → IsPlainCommand command
@@ -35,6 +36,9 @@ module _ (words : List (List ℕ)) where
   pub taken_plain : ¬ (NameGroup words) → AreTaken words → NameOne IsPlainCommand words
   taken_plain none (command, names) = (command, names, named_plain none command names)
 
+  pub untaken_plain : ¬ (AreTaken words) → ¬ (NameOne IsPlainCommand words)
+  untaken_plain none (command, names, plain) = none (command, names)
+
   -- words that name such a command don't name `group`
   pub plain_no_group : (command : Command) → Names words command → IsPlainCommand command → ¬ (NameGroup words)
   plain_no_group command names plain (flips, limit, workers, also) = subst IsPlainCommand (one_command words command (Group flips limit workers) names also) plain
@@ -48,3 +52,11 @@ module _ (words : List (List ℕ)) where
   settles_more none input status text (inl (command, names, plain, owed)) = inl (command, names, tt, owed)
   settles_more none input status text (inr (inl failed)) = inr (inl failed)
   settles_more none input status text (inr (inr (untaken, is, line))) = inr (inr ((λ all. untaken (taken_plain none (all.0, all.1))), is, line))
+
+  -- what is known of what the words ask for where they name `group`, or that they don't
+  pub group_named : (found : Option Asked) (asked : Asked) → found ≡ Some asked → MatchOption found (¬ (NameGroup words)) (λ asked. Names words (Group asked.flips asked.limit asked.workers))
+      → Names words (Group asked.flips asked.limit asked.workers)
+  group_named found asked e h = subst (λ o. MatchOption o (¬ (NameGroup words)) (λ asked. Names words (Group asked.flips asked.limit asked.workers))) e h
+
+  pub group_unnamed : (found : Option Asked) → found ≡ None → MatchOption found (¬ (NameGroup words)) (λ asked. Names words (Group asked.flips asked.limit asked.workers)) → ¬ (NameGroup words)
+  group_unnamed found e h = subst (λ o. MatchOption o (¬ (NameGroup words)) (λ asked. Names words (Group asked.flips asked.limit asked.workers))) e h

@@ -78,6 +78,7 @@ pub(crate) fn report_of(alloc: Global, f: Field, base: &Base, limit: u32) -> Res
     ensures report { IfOk result (λ report. IsReportOf base.now.tri.field limit base.now.point base.now.tri.halves report) }
     ensures refused { IfErr result (λ refusal. RefusesPlain base.now.tri.field base.now.tri.halves limit refusal.status) }
 {
+    let _number = f.number();
     let terrain = ClassTerrain::make(f);
     let (root, frame) = root_of(alloc, &terrain, base)?;
     let graph = graph_of(alloc, &terrain, base, &root, limit)?;
