@@ -8,9 +8,9 @@ use Rattle.std.proofs.lemmas.Slice.Eq.{bytes_eq-Decides}
 use Rattle.plane.specs.Spelling.{natural_text}
 use Rattle.command_words.specs.declared.rows.NumberBounds.{NumberBounds}
 use Rattle.command_words.specs.declared.command.Command.{Command}
-use Rattle.command_words.specs.declared.command.Command.TheVariants.{Check, Base, Region, Path, Plain, Make, Trial}
+use Rattle.command_words.specs.declared.command.Command.TheVariants.{Check, Base, Region, Path, Plain, Group, Make, Trial}
 use Rattle.command_words.specs.Lines.{OptionRow, CommandRow, Given, given_words, IsGivenOf, AreDistinct, IsLine, IsTaken, number_given, is_given}
-use Rattle.command_words.specs.Grammar.{check_row, base_row, region_row, path_row, plain_row, make_row, trial_row, flips_option, limit_option, summary_option}
+use Rattle.command_words.specs.Grammar.{check_row, base_row, region_row, path_row, plain_row, group_row, make_row, trial_row, flips_option, limit_option, workers_option, summary_option}
 use Rattle.command_words.specs.Commands.{IsNumberOf, row_of_command, Names, AreTaken}
 use Rattle.command_words.specs.Fronts.{IsRow}
 use Rattle.command_words.proofs.GivenLemmas.{one_given}
@@ -45,6 +45,13 @@ plain_taken words (options, plain, line) =
     let (limit, has) = some_number limit_option options refl in
     (Plain flips limit (is_given summary_option.name options), (options, plain, line, (is, has, refl)))
 
+pub group_taken : (words : List (List ℕ)) → IsTaken group_row words → AreTaken words
+group_taken words (options, plain, line) =
+    let (flips, is) = some_number flips_option options refl in
+    let (limit, has) = some_number limit_option options refl in
+    let (workers, share) = some_number workers_option options refl in
+    (Group flips limit workers, (options, plain, line, (is, has, share)))
+
 -- one plain value
 one_value : (plain : List ℕ) → 1 ≤ length plain → length plain ≤ 1 → (n : ℕ) × (plain ≡ n ∷ [])
 one_value [] some few = absurd (omega arith)
@@ -66,14 +73,15 @@ pub refused_row : (row : CommandRow) (slice words : List (List ℕ)) (r : Bool) 
 refused_row row slice words r same tells unlike taken = true≢false (sym (tells.1 (subst (IsTaken row) (sym same) taken)) ∙ unlike)
 
 pub none_taken : (words : List (List ℕ)) → ¬ (IsTaken check_row words) → ¬ (IsTaken base_row words) → ¬ (IsTaken region_row words) → ¬ (IsTaken path_row words) → ¬ (IsTaken plain_row words)
-    → ¬ (IsTaken make_row words) → ¬ (IsTaken trial_row words) → ¬ (AreTaken words)
-none_taken words check base region path plain make trial (Check, (options, values, line, is)) = check (options, values, line)
-none_taken words check base region path plain make trial (Base flips, (options, values, line, is)) = base (options, values, line)
-none_taken words check base region path plain make trial (Region flips, (options, values, line, is)) = region (options, values, line)
-none_taken words check base region path plain make trial (Path flips choices, (options, values, line, is)) = path (options, values, line)
-none_taken words check base region path plain make trial (Plain flips limit summary, (options, values, line, is)) = plain (options, values, line)
-none_taken words check base region path plain make trial (Make number, (options, values, line, is)) = make (options, values, line)
-none_taken words check base region path plain make trial (Trial flips limit number, (options, values, line, is)) = trial (options, values, line)
+    → ¬ (IsTaken group_row words) → ¬ (IsTaken make_row words) → ¬ (IsTaken trial_row words) → ¬ (AreTaken words)
+none_taken words check base region path plain group make trial (Check, (options, values, line, is)) = check (options, values, line)
+none_taken words check base region path plain group make trial (Base flips, (options, values, line, is)) = base (options, values, line)
+none_taken words check base region path plain group make trial (Region flips, (options, values, line, is)) = region (options, values, line)
+none_taken words check base region path plain group make trial (Path flips choices, (options, values, line, is)) = path (options, values, line)
+none_taken words check base region path plain group make trial (Plain flips limit summary, (options, values, line, is)) = plain (options, values, line)
+none_taken words check base region path plain group make trial (Group flips limit workers, (options, values, line, is)) = group (options, values, line)
+none_taken words check base region path plain group make trial (Make number, (options, values, line, is)) = make (options, values, line)
+none_taken words check base region path plain group make trial (Trial flips limit number, (options, values, line, is)) = trial (options, values, line)
 
 -- ---- a line has one spelling
 same_line : (row : CommandRow) → IsRow row → (options others : List Given) (plain values : List ℕ) → AllByRecursion (IsGivenOf row.options) options → AllByRecursion (IsGivenOf row.options) others
@@ -134,9 +142,24 @@ summary_flips e = let first : get_or (codes "summary") 0 0 ≡ get_or (codes "fl
 pub summary_limit : ¬ (codes "summary" ≡ codes "limit")
 summary_limit e = let first : get_or (codes "summary") 0 0 ≡ get_or (codes "limit") 0 0 = ap (λ (word : List ℕ). get_or word 0 0) e in omega (arith, first)
 
--- the names of the options of `plain`, and of `trial`, differ
+workers_letters : AllByRecursion (λ byte. ¬ (byte ≡ 61)) (codes "workers")
+workers_letters = (
+  (λ e. omega arith),
+  ((λ e. omega arith), ((λ e. omega arith), ((λ e. omega arith), ((λ e. omega arith), ((λ e. omega arith), ((λ e. omega arith), tt)))))),
+)
+
+pub workers_flips : ¬ (codes "workers" ≡ codes "flips")
+workers_flips e = let first : get_or (codes "workers") 0 0 ≡ get_or (codes "flips") 0 0 = ap (λ (word : List ℕ). get_or word 0 0) e in omega (arith, first)
+
+pub workers_limit : ¬ (codes "workers" ≡ codes "limit")
+workers_limit e = let first : get_or (codes "workers") 0 0 ≡ get_or (codes "limit") 0 0 = ap (λ (word : List ℕ). get_or word 0 0) e in omega (arith, first)
+
+-- the names of the options of `plain`, of `group` and of `trial` differ
 pub plain_names : AreDistinct (map (λ (o : OptionRow). o.name) plain_row.options)
 plain_names = ((limit_flips, (summary_flips, tt)), ((summary_limit, tt), (tt, tt)))
+
+pub group_names : AreDistinct (map (λ (o : OptionRow). o.name) group_row.options)
+group_names = ((limit_flips, (workers_flips, tt)), ((workers_limit, tt), (tt, tt)))
 
 pub trial_names : AreDistinct (map (λ (o : OptionRow). o.name) trial_row.options)
 trial_names = ((limit_flips, tt), (tt, tt))
@@ -146,6 +169,12 @@ plain_is = ((((λ e. cc), flips_letters, (λ e. cc)), (((λ e. cc), limit_letter
   where
     not_values : ¬ (codes "summary" ≡ codes "values")
     not_values e = let first : get_or (codes "summary") 0 0 ≡ get_or (codes "values") 0 0 = ap (λ (word : List ℕ). get_or word 0 0) e in omega (arith, first)
+
+group_is : IsRow group_row
+group_is = ((((λ e. cc), flips_letters, (λ e. cc)), (((λ e. cc), limit_letters, (λ e. cc)), (((λ e. cc), workers_letters, not_values), tt))), group_names)
+  where
+    not_values : ¬ (codes "workers" ≡ codes "values")
+    not_values e = let first : get_or (codes "workers") 0 0 ≡ get_or (codes "values") 0 0 = ap (λ (word : List ℕ). get_or word 0 0) e in omega (arith, first)
 
 make_is : IsRow make_row
 make_is = (tt, tt)
@@ -184,6 +213,12 @@ one_command words (Plain m limit summary) (Plain n other also_summary) (options,
     let limits = same_number limit_option options limit other is.1 (subst (λ os. IsNumberOf limit_option os other) (sym same.0) so.1) in
     let summaries : summary ≡ also_summary = is.2 ∙ ap (is_given summary_option.name) same.0 ∙ sym so.2 in
     λ i. Plain (flips i) (limits i) (summaries i)
+one_command words (Group m limit workers) (Group n other also_workers) (options, plain, line, is) (others, values, also, so) =
+    let same = one_line group_row group_is words options others plain values line also in
+    let flips = same_number flips_option options m n is.0 (subst (λ os. IsNumberOf flips_option os n) (sym same.0) so.0) in
+    let limits = same_number limit_option options limit other is.1 (subst (λ os. IsNumberOf limit_option os other) (sym same.0) so.1) in
+    let shares = same_number workers_option options workers also_workers is.2 (subst (λ os. IsNumberOf workers_option os also_workers) (sym same.0) so.2) in
+    λ i. Group (flips i) (limits i) (shares i)
 one_command words (Make m) (Make n) (options, plain, line, is) (others, values, also, so) =
     let same = one_line make_row make_is words options others plain values line also in
     ap Make (one_head m n (sym is ∙ same.1 ∙ so))

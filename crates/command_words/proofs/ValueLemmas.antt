@@ -18,31 +18,33 @@ use Rattle.command_words.specs.Commands.{IsNumberOf}
 use Rattle.command_words.proofs.FoundLemmas.{takes_of}
 
 -- a number that an option takes lies within its bounds
-taken_number : (numbers : NumberBounds) (value : Value) (n : ℕ) → Takes (Some numbers) value → number_with value ≡ Some n → n ≤ numbers.most
+taken_number : (numbers : NumberBounds) (value : Value) (n : ℕ) → Takes (Some numbers) value → number_with value ≡ Some n → (numbers.least ≤ n) × (n ≤ numbers.most)
 taken_number numbers nothing n takes e = absurd takes
-taken_number numbers (apart m) n takes e = let same : m ≡ n = cc in omega (arith, same, takes.1)
-taken_number numbers (joined m) n takes e = let same : m ≡ n = cc in omega (arith, same, takes.1)
+taken_number numbers (apart m) n takes e = let same : m ≡ n = cc in (omega (arith, same, takes.0), omega (arith, same, takes.1))
+taken_number numbers (joined m) n takes e = let same : m ≡ n = cc in (omega (arith, same, takes.0), omega (arith, same, takes.1))
 
 module _ (row : CommandRow) (distinct : AreDistinct (map (λ o. o.name) row.options)) (one : OptionRow) (among : IsOption row.options one) (numbers : NumberBounds) (is_number : one.numbers ≡ Some numbers) where
-  given_number : (options : List Given) → AllByRecursion (IsGivenOf row.options) options → (n : ℕ) → number_given one.name options ≡ Some n → n ≤ numbers.most
+  given_number : (options : List Given) → AllByRecursion (IsGivenOf row.options) options → (n : ℕ) → number_given one.name options ≡ Some n → (numbers.least ≤ n) × (n ≤ numbers.most)
   given_number [] given n e = absurd (cc)
   given_number (g ∷ options) given n e = at (bytes_eq g.name one.name) refl e (given_number options given.1 n)
     where
       at : (b : Bool) → bytes_eq g.name one.name ≡ b → cond (bytes_eq g.name one.name) (number_with g.value) (number_given one.name options) ≡ Some n
-          → (number_given one.name options ≡ Some n → n ≤ numbers.most) → n ≤ numbers.most
+          → (number_given one.name options ≡ Some n → (numbers.least ≤ n) × (n ≤ numbers.most)) → (numbers.least ≤ n) × (n ≤ numbers.most)
       at true same e later = taken_number numbers g.value n (subst (λ o. Takes o g.value) is_number (takes_of row.options one g distinct among given.0 ((bytes_eq-Decides g.name one.name).0 same))) (rw same at e)
       at false same e later = later (rw same at e)
 
   -- the number of an option lies within its bounds, given or not
-  pub number_within : (options : List Given) → AllByRecursion (IsGivenOf row.options) options → numbers.unless_given ≤ numbers.most → (n : ℕ) → IsNumberOf one options n → n ≤ numbers.most
-  number_within options given default n is =
+  pub number_within : (options : List Given) → AllByRecursion (IsGivenOf row.options) options → numbers.least ≤ numbers.unless_given → numbers.unless_given ≤ numbers.most → (n : ℕ) → IsNumberOf one options n
+      → (numbers.least ≤ n) × (n ≤ numbers.most)
+  number_within options given least most n is =
       at (number_given one.name options) one.numbers is_number (given_number options given) is
     where
-      at : (o : Option ℕ) (own : Option NumberBounds) → own ≡ Some numbers → ((m : ℕ) → o ≡ Some m → m ≤ numbers.most)
-          → MatchOption o (IsSomeAnd own (λ numbers. n ≡ numbers.unless_given)) (λ m. n ≡ m) → n ≤ numbers.most
-      at (Some m) own e within h = let most = within m refl in omega (arith, most, h)
+      at : (o : Option ℕ) (own : Option NumberBounds) → own ≡ Some numbers → ((m : ℕ) → o ≡ Some m → (numbers.least ≤ m) × (m ≤ numbers.most))
+          → MatchOption o (IsSomeAnd own (λ numbers. n ≡ numbers.unless_given)) (λ m. n ≡ m) → (numbers.least ≤ n) × (n ≤ numbers.most)
+      at (Some m) own e within h = let both = within m refl in (omega (arith, both.0, h), omega (arith, both.1, h))
       at None (Some own) e within h =
-          let same : own.unless_given ≡ numbers.unless_given = ap (λ (o : Option NumberBounds). unless o) e in omega (arith, default, same, h)
+          let same : own.unless_given ≡ numbers.unless_given = ap (λ (o : Option NumberBounds). unless o) e in
+          (omega (arith, least, same, h), omega (arith, most, same, h))
         where
           unless : Option NumberBounds → ℕ
           unless None = 0
@@ -57,9 +59,9 @@ module _ (row : CommandRow) (distinct : AreDistinct (map (λ o. o.name) row.opti
     pub number_held : AllByRecursion (IsGivenOf row.options) options → numbers.most < 2 ^ 32 → IfSome (first_value found one.name) (λ text. (n : ℕ) × (text ≡ natural_text n) × (n < 2 ^ 32))
     number_held given small = subst (λ o. IfSome o (λ text. (n : ℕ) × (text ≡ natural_text n) × (n < 2 ^ 32))) (sym held) (at (number_given one.name options) (given_number options given))
       where
-        at : (o : Option ℕ) → ((n : ℕ) → o ≡ Some n → n ≤ numbers.most) → IfSome (option_map natural_text o) (λ text. (n : ℕ) × (text ≡ natural_text n) × (n < 2 ^ 32))
+        at : (o : Option ℕ) → ((n : ℕ) → o ≡ Some n → (numbers.least ≤ n) × (n ≤ numbers.most)) → IfSome (option_map natural_text o) (λ text. (n : ℕ) × (text ≡ natural_text n) × (n < 2 ^ 32))
         at None within = tt
-        at (Some n) within = let most = within n refl in (n, refl, omega (arith, most, small))
+        at (Some n) within = let both = within n refl in (n, refl, omega (arith, both.1, small))
 
     -- and what is read of it is the number of the option
     pub number_read : (r : ℕ) → MatchOption (first_value found one.name) (IsSomeAnd one.numbers (λ numbers. r ≡ numbers.unless_given)) (λ text. text ≡ natural_text r) → IsNumberOf one options r

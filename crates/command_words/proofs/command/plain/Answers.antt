@@ -18,8 +18,8 @@ number_of-limit-requires-clause-given c =
 pub new-requires : goal.new-requires
 new-requires c =
     let (options, plain, line) = c.requires in
-    number_within plain_row plain_names limit_option (inr (inl refl)) _ refl options line.given (omega arith) _
-    (number_read plain_row plain_names limit_option (inr (inl refl)) _ refl options plain _ (c.in_ok-matches.ensures options plain line) c.number_of-limit.result c.number_of-limit.ensures)
+    (number_within plain_row plain_names limit_option (inr (inl refl)) _ refl options line.given (omega arith) (omega arith) _
+    (number_read plain_row plain_names limit_option (inr (inl refl)) _ refl options plain _ (c.in_ok-matches.ensures options plain line) c.number_of-limit.result c.number_of-limit.ensures)).1
 
 pub returns : goal.returns
 returns c =

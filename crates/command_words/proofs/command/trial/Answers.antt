@@ -24,8 +24,8 @@ value_of-number-requires c =
 pub new-requires : goal.new-requires
 new-requires c =
     let (options, plain, line) = c.requires in
-    number_within trial_row trial_names limit_option (inr (inl refl)) _ refl options line.given (omega arith) _
-    (number_read trial_row trial_names limit_option (inr (inl refl)) _ refl options plain _ (c.in_ok-matches.ensures options plain line) c.number_of-limit.result c.number_of-limit.ensures)
+    (number_within trial_row trial_names limit_option (inr (inl refl)) _ refl options line.given (omega arith) (omega arith) _
+    (number_read trial_row trial_names limit_option (inr (inl refl)) _ refl options plain _ (c.in_ok-matches.ensures options plain line) c.number_of-limit.result c.number_of-limit.ensures)).1
 
 pub new-requires-2 : goal.new-requires-2
 new-requires-2 c =
