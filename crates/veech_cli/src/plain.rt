@@ -116,7 +116,11 @@ pub(crate) fn report_from(
 }
 
 /// The code of a base, and its frame.
-pub(crate) fn root_of(alloc: Global, terrain: &ClassTerrain, base: &Base) -> Result<(Code, Mat2), Refusal>
+pub(crate) fn root_of(
+    alloc: Global,
+    terrain: &ClassTerrain,
+    base: &Base,
+) -> Result<(Code, Mat2), Refusal>
     requires { terrain.now ≡ base.now.tri.field }
     ensures code { IfOk result (λ r. IsCode base.now.tri.field base.now.tri.halves r.0) }
     ensures own { IfOk result (λ r. ∥ IsClassOver base.now.tri.field r.0 ∥₁) }

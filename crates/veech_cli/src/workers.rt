@@ -170,11 +170,13 @@ fn read_group(alloc: Global, words: &WordList) -> Result<Option<Asked>, AllocErr
     ensures refused { ¬ (AreTaken words.now) → result ≡ Ok None }
 {
     match read_command(alloc, words)? {
-        Some(Command::Group {
-            flips,
-            limit,
-            workers,
-        }) => Ok(Some(Asked {
+        Some(
+            Command::Group {
+                flips,
+                limit,
+                workers,
+            },
+        ) => Ok(Some(Asked {
             flips,
             limit,
             workers,
@@ -232,5 +234,13 @@ fn settle<R: Threads + Wait + Sync, S: Source, G: Gate>(
     let input = read_all(alloc, source, INPUT_LIMIT)?;
     let limit = asked.limit.number();
     let workers = asked.workers.number();
-    group(rt, alloc, input.as_slice(), asked.flips, limit, workers, gate)
+    group(
+        rt,
+        alloc,
+        input.as_slice(),
+        asked.flips,
+        limit,
+        workers,
+        gate,
+    )
 }

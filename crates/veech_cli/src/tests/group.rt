@@ -62,8 +62,13 @@ fn writes_the_report_of_every_example(rt: HostRuntime) -> Result<(), Fail> {
         let (ended, report) = run(alloc, &["plain"], input, roomy())?;
         assert_eq!(rt; ended, 0);
         for workers in ["1", "4", "16"] {
-            let (ended, written) =
-                run_group(&rt, alloc, &["--workers", workers], input, &OpenGate)?;
+            let (ended, written) = run_group(
+                &rt,
+                alloc,
+                &["--workers", workers],
+                input,
+                &OpenGate,
+            )?;
             assert_eq!(rt; ended, 0);
             assert_eq!(rt; written.as_slice(), report.as_slice());
         }
@@ -201,8 +206,13 @@ fn two_workers_cross_at_once(rt: HostRuntime) -> Result<(), Fail> {
         let (made, file) = run(alloc, &["make", number], b"", roomy())?;
         let (ended, report) = run(alloc, &["plain"], file.as_slice(), roomy())?;
         let gate = BothCross::new();
-        let (ended_too, written) =
-            run_group(&rt, alloc, &["--workers", "2"], file.as_slice(), &gate)?;
+        let (ended_too, written) = run_group(
+            &rt,
+            alloc,
+            &["--workers", "2"],
+            file.as_slice(),
+            &gate,
+        )?;
         assert_eq!(rt; [made, ended, ended_too], [0, 0, 0]);
         assert_eq!(rt; written.as_slice(), report.as_slice());
         let [first, second, meetings, fillings, missed] = gate.counts();

@@ -10,4 +10,3 @@ pub returns-in_err-graph-clause-refused : goal.returns-in_err-graph-clause-refus
 returns-in_err-graph-clause-refused c =
     let p = err_from_is_err_and c.from_residual-in_err-graph.result c.from_residual-in_err-graph.ensures.1 in
     rw (p.1, p.2) (inr (inl c.in_err-graph.ensures.refused))
-
