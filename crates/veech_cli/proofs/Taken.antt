@@ -53,6 +53,22 @@ module _ (words : List (List ℕ)) where
   settles_more none input status text (inr (inl failed)) = inr (inl failed)
   settles_more none input status text (inr (inr (untaken, is, line))) = inr (inr ((λ all. untaken (taken_plain none (all.0, all.1))), is, line))
 
+  -- where `group` was found, the words name no such command
+  pub found_group : (found : Option Command) (command : Command) (flips limit workers : ℕ) → found ≡ Some command → command ≡ Group flips limit workers
+      → MatchOption found (¬ (AreTaken words)) (Names words) → ¬ (NameOne IsPlainCommand words)
+  found_group found command flips limit workers e is h =
+      group_no_plain (flips, limit, workers, subst (Names words) is (subst (λ o. MatchOption o (¬ (AreTaken words)) (Names words)) e h))
+
+  -- what the command that was found asks for is what the words do
+  pub found_asked : (found : Option Command) (command : Command) (asked : Option Asked) → found ≡ Some command → MatchOption found (¬ (AreTaken words)) (Names words)
+      → MatchOption asked (IsPlainCommand command) (λ a. command ≡ Group a.flips a.limit a.workers) → MatchOption asked (¬ (NameGroup words)) (λ a. Names words (Group a.flips a.limit a.workers))
+  found_asked found command asked e h = one asked (subst (λ o. MatchOption o (¬ (AreTaken words)) (Names words)) e h)
+    where
+      one : (asked : Option Asked) → Names words command → MatchOption asked (IsPlainCommand command) (λ a. command ≡ Group a.flips a.limit a.workers)
+          → MatchOption asked (¬ (NameGroup words)) (λ a. Names words (Group a.flips a.limit a.workers))
+      one (Some a) names is = subst (Names words) is names
+      one None names plain = plain_no_group command names plain
+
   -- what is known of what the words ask for where they name `group`, or that they don't
   pub group_named : (found : Option Asked) (asked : Asked) → found ≡ Some asked → MatchOption found (¬ (NameGroup words)) (λ asked. Names words (Group asked.flips asked.limit asked.workers))
       → Names words (Group asked.flips asked.limit asked.workers)

@@ -15,7 +15,7 @@ ghost use Rattle.veech_cli.specs.SurfaceFiles.{IsAccepted};
 ghost use Rattle.veech_cli.specs.Writings.{summary_text, trial_text};
 ghost use Rattle.veech_cli.specs.Owed.{ReadsInput, Owes, IsOptional};
 ghost use Rattle.veech_cli.specs.Headline.{IsClosed};
-ghost use Rattle.veech_cli.specs.Runs.{IsCommand, SettlesOn, Settles, Delivers, IsInput, SomeInput, IsReadWhole, SaysNothing};
+ghost use Rattle.veech_cli.specs.Runs.{IsCommand, IsPlainCommand, SettlesOn, Settles, Delivers, IsInput, SomeInput, IsReadWhole, SaysNothing};
 ghost use Rattle.veech_cli.specs.Surfaces.{IsRefusal};
 
 use super::group::group;
@@ -170,18 +170,26 @@ fn read_group(alloc: Global, words: &WordList) -> Result<Option<Asked>, AllocErr
     ensures refused { ¬ (AreTaken words.now) → result ≡ Ok None }
 {
     match read_command(alloc, words)? {
-        Some(
-            Command::Group {
-                flips,
-                limit,
-                workers,
-            },
-        ) => Ok(Some(Asked {
+        Some(command) => Ok(asked_of(command)),
+        None => Ok(None),
+    }
+}
+
+/// What a command asks for where it is `group`: none exactly where it isn't.
+fn asked_of(command: Command) -> Option<Asked>
+    ensures { MatchOption result (IsPlainCommand command) (λ asked. command ≡ CommandValue.Group asked.flips asked.limit asked.workers) }
+{
+    match command {
+        Command::Group {
             flips,
             limit,
             workers,
-        })),
-        _ => Ok(None),
+        } => Some(Asked {
+            flips,
+            limit,
+            workers,
+        }),
+        _ => None,
     }
 }
 

@@ -1,4 +1,4 @@
-use Rattle.std.proofs.Common.{ℕ, ◌≤◌, length, inl, inr, refl, ap, sym, subst, arith, Err}
+use Rattle.std.proofs.Common.{◌≤◌, length, inl, inr, refl, ap, ◌∙◌, arith, Err}
 use Rattle.std.proofs.lemmas.Result.{IfOk-at_ok}
 use Rattle.veech_cli.proofs.Explored.{graph_there, graph_over, more_there, stuck_there}
 use Rattle.veech_cli.proofs.Grouped.{own_classes}
