@@ -340,3 +340,17 @@ module _ (command : Command) (flips limit number l n : ℕ) (input : List ℕ) (
   pub trial_refused : {X : Type 0} (r : Result X Refusal) → IfErr r (λ refusal. (input : List ℕ) → IsRefusalOf (Trial flips l n) input refusal.status) → IfErr r (λ refusal. IsRefusalOf command input refusal.status)
   trial_refused (Ok x) h = tt
   trial_refused (Err refusal) h = subst (λ (c : Command). IsRefusalOf c input refusal.status) trial_is (h input)
+
+-- what is owed to the input that was read is owed to some input that the source had left
+pub output_owed : {X : Type 0} (command : Command) (left : Option (List ℕ)) (input : List ℕ) (items : X → List ℕ) (r : Result X Refusal) → IsInput left input → IfOk r (λ x. Owes command input Done (items x))
+    → IfOk r (λ x. SomeInput left (λ input. Owes command input Done (items x)))
+output_owed command left input items (Ok x) is owed = (input, is, owed)
+output_owed command left input items (Err refusal) is owed = tt
+
+-- what `group` owes and refuses, by the numbers of its words
+module _ {X : Type 0} (flips limit workers l n : ℕ) (input : List ℕ) (same : l ≡ limit) (also : n ≡ workers) (r : Result X Refusal) where
+  pub group_owed : (items : X → List ℕ) → IfOk r (λ text. Owes (Group flips l n) input Done (items text)) → IfOk r (λ text. Owes (Group flips limit workers) input Done (items text))
+  group_owed items h = subst (λ (c : Command). IfOk r (λ text. Owes c input Done (items text))) (λ i. Group flips (same i) (also i)) h
+
+  pub group_refused : IfErr r (λ refusal. IsRefusalOf (Group flips l n) input refusal.status) → IfErr r (λ refusal. IsRefusalOf (Group flips limit workers) input refusal.status)
+  group_refused h = subst (λ (c : Command). IfErr r (λ refusal. IsRefusalOf c input refusal.status)) (λ i. Group flips (same i) (also i)) h

@@ -1,5 +1,5 @@
 -- Which commands the words name: `group`, or one that needs no workers.
-use Rattle.std.proofs.Common.{◌≡◌, ℕ, ◌⊎◌, inl, inr, refl, List, sym, subst, Option, Some, None}
+use Rattle.std.proofs.Common.{◌≡◌, ℕ, inl, inr, List, subst, Option, Some, None}
 use Rattle.std.specs.Prelude.{MatchOption}
 use Rattle.answer_text.specs.declared.status.Status.{Status}
 use Rattle.command_words.specs.declared.command.Command.{Command}
@@ -58,6 +58,10 @@ module _ (words : List (List ℕ)) where
       → MatchOption found (¬ (AreTaken words)) (Names words) → ¬ (NameOne IsPlainCommand words)
   found_group found command flips limit workers e is h =
       group_no_plain (flips, limit, workers, subst (Names words) is (subst (λ o. MatchOption o (¬ (AreTaken words)) (Names words)) e h))
+
+  -- where no command was found, they don't name `group`
+  pub found_none : (found : Option Command) → found ≡ None → MatchOption found (¬ (AreTaken words)) (Names words) → ¬ (NameGroup words)
+  found_none found e h (flips, limit, workers, names) = subst (λ o. MatchOption o (¬ (AreTaken words)) (Names words)) e h (Group flips limit workers, names)
 
   -- what the command that was found asks for is what the words do
   pub found_asked : (found : Option Command) (command : Command) (asked : Option Asked) → found ≡ Some command → MatchOption found (¬ (AreTaken words)) (Names words)

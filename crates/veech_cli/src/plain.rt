@@ -174,7 +174,7 @@ pub(crate) fn classes_of(
     requires field { terrain.now ≡ base.now.tri.field }
     requires number { IsFieldNumber base.now.tri.field }
     requires root { IsCode base.now.tri.field base.now.tri.halves root.now }
-    requires found { IfOk explored (λ g. IsGraph (slice_cmp int_cmp) (HasWalls (field_numbers terrain.now)) (LeadsBy (field_numbers terrain.now)) root.now g.keys.items (map (λ v. v.items) g.leads.items) g.root) }
+    requires found { IfOk explored (λ g. IsGraph (slice_cmp int_cmp) (HasWalls (field_numbers terrain.now)) (LeadsBy (field_numbers terrain.now)) root.now (map (λ code. code) g.keys.items) (map (λ v. v.items) g.leads.items) g.root) }
     requires few { IfOk explored (λ g. vec_len g.keys ≤ limit) }
     requires limit { explored ≡ Err ExploreFault.Limit → MoreAreReached (HasWalls (field_numbers terrain.now)) (LeadsBy (field_numbers terrain.now)) root.now limit }
     requires fault { (key : List ℤ) (fault : Fault) → explored ≡ Err (ExploreFault.Fault key fault) → IsStuckWithin (HasWalls (field_numbers terrain.now)) (LeadsBy (field_numbers terrain.now)) (IsStuck (field_numbers terrain.now)) (IsStuckAt (field_numbers terrain.now)) root.now key fault }

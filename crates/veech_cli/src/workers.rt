@@ -20,8 +20,8 @@ ghost use Rattle.veech_cli.specs.Surfaces.{IsRefusal};
 
 use super::group::group;
 use super::laws::reports_are_closed;
+use super::one_thread::{INPUT_LIMIT, deliver, refuse, run_plain};
 use super::refusal::Refusal;
-use super::run::{INPUT_LIMIT, deliver, refuse, run_plain};
 use super::{Status, WordList};
 use command_words::{ClassLimit, Command, WorkerNumber, read_command};
 use io_ends::{Gate, Sink, Source, read_all};
@@ -189,7 +189,7 @@ fn asked_of(command: Command) -> Option<Asked>
             limit,
             workers,
         }),
-        _ => None,
+        _other => None,
     }
 }
 

@@ -16,7 +16,7 @@ turns_of-requires c = record {
 
 pub returns-in_err-turns-clause-refused : goal.returns-in_err-turns-clause-refused
 returns-in_err-turns-clause-refused c =
-    let p = err_from_is_err_and c.from_residual-in_err-turns.result c.from_residual-in_err-turns.ensures.1 in
+    let p = err_from_is_err_and c.from_residual.result c.from_residual.ensures.1 in
     rw (p.1, p.2) (inr (inl (turns_refuse c.args.base.now.tri.field c.args.base.now.tri.halves c.args.limit c.args.graph.keys.items c.in_err-turns.field-0.0.status c.requires.classes
     (subst (λ (keys : List (List ℤ)). RefusesTurns c.args.base.now.tri.field keys c.in_err-turns.field-0.0.status) c.as_slice.ensures.value
     (subst (λ (d : ℕ). RefusesTurns d c.as_slice.result.now c.in_err-turns.field-0.0.status) c.requires.terrain c.in_err-turns.ensures.refused)))))

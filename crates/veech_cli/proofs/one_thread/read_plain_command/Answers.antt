@@ -1,5 +1,5 @@
 use Rattle.veech_cli.proofs.Taken.{found_group}
-use Rattle.veech_cli.proofs.run.read_plain_command.Goals as goal
+use Rattle.veech_cli.proofs.one_thread.read_plain_command.Goals as goal
 
 pub returns-in-Some-Group-clause-named : goal.returns-in-Some-Group-clause-named
 returns-in-Some-Group-clause-named c =

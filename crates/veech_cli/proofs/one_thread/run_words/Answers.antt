@@ -4,7 +4,7 @@ use Rattle.veech_cli.specs.Owed.{ReadsInput}
 use Rattle.veech_cli.specs.Runs.{IsPlainCommand}
 use Rattle.veech_cli.proofs.Settling.{named, words_come, words_whole, words_not_done, memory_comes, memory_whole, memory_not_read, found_named, none_taken}
 use Rattle.veech_cli.proofs.Taken.{plain_unless_reads, plain_no_group}
-use Rattle.veech_cli.proofs.run.run_words.Goals as goal
+use Rattle.veech_cli.proofs.one_thread.run_words.Goals as goal
 
 pub answer-requires : goal.answer-requires
 answer-requires g c = (found_named IsPlainCommand c.args.words.now c.in-Ok-Some.field-0 c.in-Ok-Some.command c.in-Ok-Some.field-0-is c.in-Ok-Some.ensures.named).1

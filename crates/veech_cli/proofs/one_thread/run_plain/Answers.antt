@@ -5,7 +5,7 @@ use Rattle.veech_cli.specs.Runs.{IsPlainCommand}
 use Rattle.veech_cli.proofs.Taken.{plain_unless_reads}
 use Rattle.veech_cli.proofs.Settling.{complete, complete_unread, accepted, makes, comes_named}
 use Rattle.veech_cli.proofs.Closed.{headline, trial_headline, made_text}
-use Rattle.veech_cli.proofs.run.run_plain.Goals as goal
+use Rattle.veech_cli.proofs.one_thread.run_plain.Goals as goal
 
 pub returns-clause-headline : goal.returns-clause-headline
 returns-clause-headline g c = λ flips limit names done.
