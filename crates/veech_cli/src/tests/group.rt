@@ -127,7 +127,7 @@ fn refuses_what_plain_does(rt: HostRuntime) -> Result<(), Fail> {
     }
     let (ended, written) = run(rt.alloc(), &["group"], TORUS, roomy())?;
     assert_eq!(rt; ended, 2);
-    assert_eq!(rt; written.as_slice(), b"fault words\n");
+    assert_eq!(rt; written.as_slice(), &b"fault words\n"[..]);
     let (ended, written) = run_group(&rt, rt.alloc(), &[], WIDE_OCTAGON, &OpenGate)?;
     assert_eq!(rt; ended, 6);
     assert!(rt; written.starts_with(b"fault wide "));
@@ -135,6 +135,7 @@ fn refuses_what_plain_does(rt: HostRuntime) -> Result<(), Fail> {
 }
 
 /// A gate that holds the first crossing of each of two workers until the other's has begun, and counts the steps that have begun.
+#[derive(Drop)]
 struct BothCross {
     crossings: [AtomicU64; 2],
     meetings: AtomicU64,
