@@ -1,6 +1,6 @@
--- A run of `plain` or `trial` that is Done is closed.
+-- A run of `plain`, `group` or `trial` that is Done is closed.
 use Rattle.std.proofs.Common.{◌≡◌, ◌∙◌, ℕ, inl, inr, List, ap, sym, subst, Option, Some, None}
-use Rattle.std.specs.Prelude.{◌↔◌, ℤ, Bool, IfSome}
+use Rattle.std.specs.Prelude.{◌↔◌, ℤ, Bool, false, IfSome}
 use Rattle.std.specs.List.{Contains}
 use Rattle.std.specs.Ordering.{int_cmp}
 use Rattle.std.specs.Cmp.Lexicographic.{slice_cmp}
@@ -27,7 +27,7 @@ use Rattle.returning.specs.Turns.{AreTurns}
 use Rattle.answer_text.specs.declared.status.Status.{Status}
 use Rattle.answer_text.specs.declared.status.Status.TheVariants.{Done, Words, ReadFault, WriteFault, Memory}
 use Rattle.command_words.specs.declared.command.Command.{Command}
-use Rattle.command_words.specs.declared.command.Command.TheVariants.{Plain, Make, Trial}
+use Rattle.command_words.specs.declared.command.Command.TheVariants.{Plain, Group, Make, Trial}
 use Rattle.command_words.specs.Commands.{Names}
 use Rattle.command_words.proofs.CallerLemmas.{one_command}
 use Rattle.veech_cli.specs.SurfaceFiles.{IsAccepted, IsTriangulationOf}
@@ -127,12 +127,12 @@ done_no_failure status e (inr is) = not_memory (sym is ∙ e)
     not_memory e = cc
 
 -- what is settled on with Done is what the command owes
-done_owed : (words : List (List ℕ)) (command : Command) (input : List ℕ) (status : Status) (text : List ℕ) → Names words command → status ≡ Done → Settles words input status text
+done_owed : (Takes : Command → Type 0) (words : List (List ℕ)) (command : Command) (input : List ℕ) (status : Status) (text : List ℕ) → Names words command → status ≡ Done → Settles Takes words input status text
     → Owes command input Done text
-done_owed words command input status text names done (inl (found, other, owed)) =
+done_owed Takes words command input status text names done (inl (found, other, _, owed)) =
     subst (λ (s : Status). Owes command input s text) done (subst (λ (c : Command). Owes c input status text) (one_command words found command other names) owed)
-done_owed words command input status text names done (inr (inl failed)) = absurd (done_no_failure status done failed.0)
-done_owed words command input status text names done (inr (inr refused)) = absurd (not_words (sym refused.1 ∙ done))
+done_owed Takes words command input status text names done (inr (inl failed)) = absurd (done_no_failure status done failed.0)
+done_owed Takes words command input status text names done (inr (inr refused)) = absurd (not_words (sym refused.1 ∙ done))
   where
     not_words : Words ≡ Done → ⊥
     not_words e = cc
@@ -146,18 +146,18 @@ done_taken status text result taken after done (inr d) = absurd (not_write (sym 
     not_write : WriteFault ≡ Done → ⊥
     not_write e = cc
 
-module _ (words : List (List ℕ)) (taken after : Option (List ℕ)) (result : Status) (done : result ≡ Done) where
+module _ (Takes : Command → Type 0) (words : List (List ℕ)) (taken after : Option (List ℕ)) (result : Status) (done : result ≡ Done) where
   -- a run of a command that answers Done has written what the command owes
   written_owed : (command : Command) (left : Option (List ℕ)) → Names words command
-      → (input : List ℕ) × (status : Status) × (text : List ℕ) × IsInput left input × Settles words input status text × Delivers status text result taken after
+      → (input : List ℕ) × (status : Status) × (text : List ℕ) × IsInput left input × Settles Takes words input status text × Delivers status text result taken after
       → (input : List ℕ) × (written : List ℕ) × IsInput left input × Owes command input Done written × (after ≡ taken_after taken written)
   written_owed command left names (input, status, text, is, settled, d) =
       let own = done_taken status text result taken after done d in
-      (input, text, is, done_owed words command input status text names own.0 settled, own.1)
+      (input, text, is, done_owed Takes words command input status text names own.0 settled, own.1)
 
   -- so a run of `plain` has written a closed report or its summary
   pub headline : AreClosed → (left : Option (List ℕ))
-      → (input : List ℕ) × (status : Status) × (text : List ℕ) × IsInput left input × Settles words input status text × Delivers status text result taken after
+      → (input : List ℕ) × (status : Status) × (text : List ℕ) × IsInput left input × Settles Takes words input status text × Delivers status text result taken after
       → (flips limit : ℕ) (summary : Bool) → Names words (Plain flips limit summary)
       → IfSome left (λ input. (written : List ℕ) × IsClosed (IsAccepted input) flips limit (plain_text summary) written × (after ≡ taken_after taken written))
   headline law None outcome flips limit summary names = tt
@@ -165,9 +165,19 @@ module _ (words : List (List ℕ)) (taken after : Option (List ℕ)) (result : S
       let own = written_owed (Plain flips limit summary) (Some bytes) names outcome in
       (own.1, subst (λ (b : List ℕ). IsClosed (IsAccepted b) flips limit (plain_text summary) own.1) own.2 (law flips limit summary own.0 own.1 own.3), own.4)
 
+  -- a run of `group` a closed report
+  pub group_headline : AreClosed → (left : Option (List ℕ))
+      → (input : List ℕ) × (status : Status) × (text : List ℕ) × IsInput left input × Settles Takes words input status text × Delivers status text result taken after
+      → (flips limit workers : ℕ) → Names words (Group flips limit workers)
+      → IfSome left (λ input. (written : List ℕ) × IsClosed (IsAccepted input) flips limit (plain_text false) written × (after ≡ taken_after taken written))
+  group_headline law None outcome flips limit workers names = tt
+  group_headline law (Some bytes) outcome flips limit workers names =
+      let own = written_owed (Group flips limit workers) (Some bytes) names outcome in
+      (own.1, subst (λ (b : List ℕ). IsClosed (IsAccepted b) flips limit (plain_text false) own.1) own.2 (law flips limit false own.0 own.1 own.3), own.4)
+
   -- a run of `trial` a closed summary
   pub trial_headline : AreClosedTrials → (left : Option (List ℕ))
-      → (input : List ℕ) × (status : Status) × (text : List ℕ) × IsInput left input × Settles words input status text × Delivers status text result taken after
+      → (input : List ℕ) × (status : Status) × (text : List ℕ) × IsInput left input × Settles Takes words input status text × Delivers status text result taken after
       → (flips limit number : ℕ) → Names words (Trial flips limit number)
       → (written : List ℕ) × IsClosed (λ file. file ≡ family_of number) flips limit (trial_text number) written × (after ≡ taken_after taken written)
   trial_headline law left outcome flips limit number names =
@@ -175,7 +185,7 @@ module _ (words : List (List ℕ)) (taken after : Option (List ℕ)) (result : S
 
   -- and a run of `make` the text of its file
   pub made_text : (left : Option (List ℕ))
-      → (input : List ℕ) × (status : Status) × (text : List ℕ) × IsInput left input × Settles words input status text × Delivers status text result taken after
+      → (input : List ℕ) × (status : Status) × (text : List ℕ) × IsInput left input × Settles Takes words input status text × Delivers status text result taken after
       → (number : ℕ) → Names words (Make number) → after ≡ taken_after taken (file_text (family_of number))
   made_text left outcome number names =
       let own = written_owed (Make number) left names outcome in own.4 ∙ ap (taken_after taken) (owed_text own.0 own.1 own.3)

@@ -53,7 +53,7 @@ module _ (d : ℕ) (base : List Half) (root : List ℤ) (field : IsFieldNumber d
   pub stuck_class : AreSound → (key : List ℤ) (fault : ClassFault)
       → IsStuckWithin (HasWalls (field_numbers d)) (LeadsBy (field_numbers d)) (IsStuck (field_numbers d)) (IsStuckAt (field_numbers d)) root key fault
       → IsReachedCode d base key × IsWideAtClass d key fault.wall fault.formula
-  stuck_class sound key fault (known, stuck) = (sound (field_numbers d) root base key is_root known, ∥∥₁_elim (one_proof fault.wall) wide stuck)
+  stuck_class sound key fault (known, stuck) = (sound (field_numbers d) root base key is_root known, ∥∥₁_elim stuck (one_proof fault.wall) wide)
     where
       one_proof : (wall : Option ℕ) → IsProp (IsWideAtClass d key wall fault.formula)
       one_proof None = ∥∥₁_prop

@@ -1,7 +1,7 @@
 -- An input is accepted as one file, or refused for one cause in one line, never both; and a command owes it one status.
 use Rattle.std.proofs.Common.{◌≡◌, ℕ, ◌≤◌, inl, inr, refl, List, [], ◌∷◌, length, ap, sym, ◌∙◌, subst, arith}
 use Rattle.std.specs.List.{AllByRecursion}
-use Rattle.std.specs.Prelude.{◌<◌, ◌⊎◌, ℤ, Some}
+use Rattle.std.specs.Prelude.{◌<◌, ◌⊎◌, ℤ, Some, false}
 use Rattle.std.proofs.lemmas.Bool.{cases_order}
 use Rattle.std.proofs.lemmas.Option.{slice_get-get_or}
 use Rattle.surface_text.specs.Spelling.{Content, text}
@@ -27,7 +27,7 @@ use Rattle.answer_text.specs.declared.status.Status.TheVariants.{Done, File, Too
 use Rattle.answer_text.specs.declared.place.Place.TheVariants as places
 use Rattle.answer_text.specs.declared.no_cause.NoCause.TheVariants.{Wall}
 use Rattle.command_words.specs.declared.command.Command.{Command}
-use Rattle.command_words.specs.declared.command.Command.TheVariants.{Check, Base, Region, Path, Plain, Make, Trial}
+use Rattle.command_words.specs.declared.command.Command.TheVariants.{Check, Base, Region, Path, Plain, Group, Make, Trial}
 use Rattle.veech_cli.specs.SurfaceFiles.{IsTextOf, IsAccepted, IsTriangulationOf, IsRefused, too_long, text_refused, not_glued}
 use Rattle.veech_cli.specs.Endings.{or_standard, points_of, status_of_ending}
 use Rattle.family_gen.proofs.CallerLemmas as families
@@ -239,6 +239,13 @@ module _ (file : Content) (limits : IsWithinLimits file) (glued : IsGluing (glui
   on_once P once status other text line a b =
       let both = on_one P P status other text line a b in once both.0 both.1 status other text line both.2 both.3
 
+  -- what is answered for the classes of a file, however they are written, is one status
+  one_classes : (writing : Writing) (flips limit : ℕ) → (status other : Status) (text line : List ℕ) → OnTriangulation (AnswersFromBase flips (IsPlainAnswer writing file.field limit)) file status text
+      → OnTriangulation (AnswersFromBase flips (IsPlainAnswer writing file.field limit)) file other line → AreAlike status other
+  one_classes writing flips limit =
+      on_once (AnswersFromBase flips (IsPlainAnswer writing file.field limit))
+      (λ halves t. base_once file limits glued halves t flips (IsPlainAnswer writing file.field limit) (λ at later valid. plain_once writing file.field limit at later))
+
   -- for the file that it works on a command answers one status
   one_for : (command : Command) (status other : Status) (text line : List ℕ) → Answers command file status text → Answers command file other line → AreAlike status other
   one_for Check status other text line a b = inl (a.2.4 ∙ sym b.2.4)
@@ -255,13 +262,10 @@ module _ (file : Content) (limits : IsWithinLimits file) (glued : IsGluing (glui
   one_for (Path flips choices) status other text line a b =
       on_once (AnswersFromBase flips (λ at. IsPathAnswer file.field choices))
       (λ halves t. base_once file limits glued halves t flips (λ at. IsPathAnswer file.field choices) (λ at later valid. path_once file.field limits.field choices later valid)) status other text line a b
-  one_for (Plain flips limit summary) status other text line a b =
-      on_once (AnswersFromBase flips (IsPlainAnswer (plain_text summary) file.field limit))
-      (λ halves t. base_once file limits glued halves t flips (IsPlainAnswer (plain_text summary) file.field limit) (λ at later valid. plain_once (plain_text summary) file.field limit at later)) status other text line a b
+  one_for (Plain flips limit summary) status other text line a b = one_classes (plain_text summary) flips limit status other text line a b
+  one_for (Group flips limit workers) status other text line a b = one_classes (plain_text false) flips limit status other text line a b
   one_for (Make number) status other text line a b = inl (a.0 ∙ sym b.0)
-  one_for (Trial flips limit number) status other text line a b =
-      on_once (AnswersFromBase flips (IsPlainAnswer (trial_text number) file.field limit))
-      (λ halves t. base_once file limits glued halves t flips (IsPlainAnswer (trial_text number) file.field limit) (λ at later valid. plain_once (trial_text number) file.field limit at later)) status other text line a b
+  one_for (Trial flips limit number) status other text line a b = one_classes (trial_text number) flips limit status other text line a b
 
 -- the file that a command works on is a surface
 pub works_within : (command : Command) (input : List ℕ) (file : Content) → WorksOn command input file → IsWithinLimits file
@@ -270,6 +274,7 @@ works_within (Base flips) input file works = works.text_of.limits
 works_within (Region flips) input file works = works.text_of.limits
 works_within (Path flips choices) input file works = works.text_of.limits
 works_within (Plain flips limit summary) input file works = works.text_of.limits
+works_within (Group flips limit workers) input file works = works.text_of.limits
 works_within (Make number) input file works = subst IsWithinLimits (sym works.1) (families.within_limits number works.0)
 works_within (Trial flips limit number) input file works = subst IsWithinLimits (sym works.1) (families.within_limits number works.0)
 
@@ -279,6 +284,7 @@ works_glued (Base flips) input file works = works.glued
 works_glued (Region flips) input file works = works.glued
 works_glued (Path flips choices) input file works = works.glued
 works_glued (Plain flips limit summary) input file works = works.glued
+works_glued (Group flips limit workers) input file works = works.glued
 works_glued (Make number) input file works = subst (λ (f : Content). IsGluing (gluing_of f)) (sym works.1) (families.glued number works.0)
 works_glued (Trial flips limit number) input file works = subst (λ (f : Content). IsGluing (gluing_of f)) (sym works.1) (families.glued number works.0)
 
@@ -289,6 +295,7 @@ one_work (Base flips) input file other a b = one_file input file other a b
 one_work (Region flips) input file other a b = one_file input file other a b
 one_work (Path flips choices) input file other a b = one_file input file other a b
 one_work (Plain flips limit summary) input file other a b = one_file input file other a b
+one_work (Group flips limit workers) input file other a b = one_file input file other a b
 one_work (Make number) input file other a b = a.1 ∙ sym b.1
 one_work (Trial flips limit number) input file other a b = a.1 ∙ sym b.1
 
@@ -299,6 +306,7 @@ works_accepted (Base flips) input file reads works = works
 works_accepted (Region flips) input file reads works = works
 works_accepted (Path flips choices) input file reads works = works
 works_accepted (Plain flips limit summary) input file reads works = works
+works_accepted (Group flips limit workers) input file reads works = works
 works_accepted (Make number) input file reads works = absurd reads
 works_accepted (Trial flips limit number) input file reads works = absurd reads
 

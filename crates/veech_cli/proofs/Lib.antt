@@ -6,6 +6,7 @@ mod Grouped
 mod OneGraph
 mod Inputs
 mod Reported
+mod Taken
 mod Settling
 mod Unread
 mod Based

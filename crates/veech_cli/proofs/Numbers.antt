@@ -9,11 +9,11 @@ use Rattle.veech_cli.specs.Owed.{Owes, IsOptional}
 use Rattle.veech_cli.specs.Runs.{Settles, IsInput, Delivers}
 
 -- how a run on the words that are given comes out
-pub by_number : (words given : List (List ℕ)) (left taken after : Option (List ℕ)) (result : Status) (number : ℕ) → words ≡ given → number ≡ number_of result
-    → (input : List ℕ) × (status : Status) × (text : List ℕ) × IsInput left input × Settles words input status text × Delivers status text result taken after
-    → (input : List ℕ) × (status : Status) × (text : List ℕ) × (last : Status) × IsInput left input × Settles given input status text × Delivers status text last taken after × (number ≡ number_of last)
-by_number words given left taken after result number same ends (input, status, text, is, settles, delivers) =
-    (input, status, text, result, is, subst (λ w. Settles w input status text) same settles, delivers, ends)
+pub by_number : (Takes : Command → Type 0) (words given : List (List ℕ)) (left taken after : Option (List ℕ)) (result : Status) (number : ℕ) → words ≡ given → number ≡ number_of result
+    → (input : List ℕ) × (status : Status) × (text : List ℕ) × IsInput left input × Settles Takes words input status text × Delivers status text result taken after
+    → (input : List ℕ) × (status : Status) × (text : List ℕ) × (last : Status) × IsInput left input × Settles Takes given input status text × Delivers status text last taken after × (number ≡ number_of last)
+by_number Takes words given left taken after result number same ends (input, status, text, is, settles, delivers) =
+    (input, status, text, result, is, subst (λ w. Settles Takes w input status text) same settles, delivers, ends)
 
 -- the number of what is owed: of this status, or of want of memory, or of a wide formula that the answer may do without
 abbrev pub IsNumberOwed : Command → List ℕ → ℕ → Status → Type 0

@@ -13,12 +13,12 @@ use Rattle.answer_text.specs.declared.status.Status.{Status}
 use Rattle.answer_text.specs.declared.status.Status.TheVariants.{Done, Words, File, ReadFault, WriteFault, Memory}
 use Rattle.answer_text.specs.Lines.{status_line}
 use Rattle.command_words.specs.declared.command.Command.{Command}
-use Rattle.command_words.specs.declared.command.Command.TheVariants.{Check, Base, Region, Path, Plain, Make, Trial}
-use Rattle.command_words.specs.Commands.{Names, AreTaken}
+use Rattle.command_words.specs.declared.command.Command.TheVariants.{Check, Base, Region, Path, Plain, Group, Make, Trial}
+use Rattle.command_words.specs.Commands.{Names}
 use Rattle.veech_cli.specs.SurfaceFiles.{IsTextOf, IsAccepted, too_long, not_glued}
 use Rattle.veech_cli.specs.Owed.{ReadsInput, Owes, IsOptional}
 use Rattle.veech_cli.specs.Refusals.{status_of_reading, status_of_gluing}
-use Rattle.veech_cli.specs.Runs.{SettlesOn, Settles, IsInput, SomeInput, Delivers, IsReadWhole, SaysNothing}
+use Rattle.veech_cli.specs.Runs.{NameOne, SettlesOn, Settles, IsInput, SomeInput, Delivers, IsReadWhole, SaysNothing}
 use Rattle.veech_cli.specs.declared.refusal.Refusal.{Refusal}
 use Rattle.veech_cli.specs.Surfaces.{RefusesFile, IsRefusal, IsRefusalOf}
 use Rattle.command_words.proofs.CallerLemmas.{one_command}
@@ -73,6 +73,7 @@ whatever (Base flips) none input other status text owed = absurd (none tt)
 whatever (Region flips) none input other status text owed = absurd (none tt)
 whatever (Path flips choices) none input other status text owed = absurd (none tt)
 whatever (Plain flips limit summary) none input other status text owed = absurd (none tt)
+whatever (Group flips limit workers) none input other status text owed = absurd (none tt)
 whatever (Make number) none input other status text (inl refused) = absurd refused.2
 whatever (Make number) none input other status text (inr answer) = inr answer
 whatever (Trial flips limit number) none input other status text (inl refused) = absurd refused.2
@@ -197,10 +198,26 @@ refusal_comes command left taken after status settled result (input, is, on) (in
     (input, Memory, status_line Memory, is, inr (inr refl, refl), subst (λ s. Delivers s (status_line s) result taken after) e d)
 
 -- refused words
-pub words_come : (words : List (List ℕ)) (left taken after : Option (List ℕ)) (result : Status) → ¬ (AreTaken words) → Delivers Words (status_line Words) result taken after
-    → (input : List ℕ) × (status : Status) × (text : List ℕ) × IsInput left input × Settles words input status text × Delivers status text result taken after
-words_come words None taken after result n d = ([], Words, status_line Words, tt, inr (inr (n, refl, refl)), d)
-words_come words (Some bytes) taken after result n d = (bytes, Words, status_line Words, refl, inr (inr (n, refl, refl)), d)
+pub words_come : (Takes : Command → Type 0) (words : List (List ℕ)) (left taken after : Option (List ℕ)) (result : Status) → ¬ (NameOne Takes words) → Delivers Words (status_line Words) result taken after
+    → (input : List ℕ) × (status : Status) × (text : List ℕ) × IsInput left input × Settles Takes words input status text × Delivers status text result taken after
+words_come Takes words None taken after result n d = ([], Words, status_line Words, tt, inr (inr (n, refl, refl)), d)
+words_come Takes words (Some bytes) taken after result n d = (bytes, Words, status_line Words, refl, inr (inr (n, refl, refl)), d)
+
+-- say nothing of the input
+pub words_whole : {P : Type 0} (text : List ℕ) (result : Status) (taken after : Option (List ℕ)) → Delivers Words text result taken after → SaysNothing result ⊎ P
+words_whole text result taken after (inl d) = inl (inl d.0)
+words_whole text result taken after (inr d) = inl (inr (inr (inl d.0)))
+
+-- and aren't Done
+pub words_not_done : (text : List ℕ) (result : Status) (taken after : Option (List ℕ)) → Delivers Words text result taken after → ¬ (result ≡ Done)
+words_not_done text result taken after (inl d) is = not_done (sym d.0 ∙ is)
+  where
+    not_done : Words ≡ Done → ⊥
+    not_done e = cc
+words_not_done text result taken after (inr d) is = not_done (sym d.0 ∙ is)
+  where
+    not_done : WriteFault ≡ Done → ⊥
+    not_done e = cc
 
 -- where no end failed, what a run settled on is answered
 module _ (result : Status) (taken after : Option (List ℕ)) (read_rose write_rose : Type 0)
@@ -262,33 +279,35 @@ module _ (result : Status) (taken after : Option (List ℕ)) (read_rose write_ro
       done owed text (inr (file, works, (is, line))) = is
 
 -- what is known of the command that was found, or that there is none
-pub found_named : (words : List (List ℕ)) (found : Option Command) (command : Command) → found ≡ Some command → MatchOption found (¬ (AreTaken words)) (Names words) → Names words command
-found_named words found command e h = subst (λ o. MatchOption o (¬ (AreTaken words)) (Names words)) e h
+module _ (Takes : Command → Type 0) (words : List (List ℕ)) where
+  pub found_named : (found : Option Command) (command : Command) → found ≡ Some command → MatchOption found (¬ (NameOne Takes words)) (λ command. Names words command × Takes command)
+      → Names words command × Takes command
+  found_named found command e h = subst (λ o. MatchOption o (¬ (NameOne Takes words)) (λ command. Names words command × Takes command)) e h
 
-pub none_taken : (words : List (List ℕ)) (found : Option Command) → found ≡ None → MatchOption found (¬ (AreTaken words)) (Names words) → ¬ (AreTaken words)
-none_taken words found e h = subst (λ o. MatchOption o (¬ (AreTaken words)) (Names words)) e h
+  pub none_taken : (found : Option Command) → found ≡ None → MatchOption found (¬ (NameOne Takes words)) (λ command. Names words command × Takes command) → ¬ (NameOne Takes words)
+  none_taken found e h = subst (λ o. MatchOption o (¬ (NameOne Takes words)) (λ command. Names words command × Takes command)) e h
 
--- what a run settled on is settled on by the command that the words name
-settled_by : (words : List (List ℕ)) (command : Command) (input : List ℕ) (status : Status) (text : List ℕ) → Names words command → Settles words input status text → SettlesOn command input status text
-settled_by words command input status text names (inl (found, also, owed)) = inl (subst (λ (c : Command). Owes c input status text) (one_command words found command also names) owed)
-settled_by words command input status text names (inr (inl failed)) = inr failed
-settled_by words command input status text names (inr (inr (none, _, _))) = absurd (none (command, names))
+  -- what a run settled on is settled on by the command that the words name
+  settled_by : (command : Command) (input : List ℕ) (status : Status) (text : List ℕ) → Names words command → Takes command → Settles Takes words input status text → SettlesOn command input status text
+  settled_by command input status text names takes (inl (found, also, _, owed)) = inl (subst (λ (c : Command). Owes c input status text) (one_command words found command also names) owed)
+  settled_by command input status text names takes (inr (inl failed)) = inr failed
+  settled_by command input status text names takes (inr (inr (none, _, _))) = absurd (none (command, names, takes))
 
-pub comes_named : (words : List (List ℕ)) (command : Command) (left taken after : Option (List ℕ)) (result : Status) → Names words command
-    → (input : List ℕ) × (status : Status) × (text : List ℕ) × IsInput left input × Settles words input status text × Delivers status text result taken after
-    → ComesOut command left result taken after
-comes_named words command left taken after result names (input, status, text, is, settles, d) = (input, status, text, is, settled_by words command input status text names settles, d)
+  pub comes_named : (command : Command) (left taken after : Option (List ℕ)) (result : Status) → Names words command → Takes command
+      → (input : List ℕ) × (status : Status) × (text : List ℕ) × IsInput left input × Settles Takes words input status text × Delivers status text result taken after
+      → ComesOut command left result taken after
+  comes_named command left taken after result names takes (input, status, text, is, settles, d) = (input, status, text, is, settled_by command input status text names takes settles, d)
 
-pub named : (words : List (List ℕ)) (command : Command) (left taken after : Option (List ℕ)) (result : Status) → Names words command → ComesOut command left result taken after
-    → (input : List ℕ) × (status : Status) × (text : List ℕ) × IsInput left input × Settles words input status text × Delivers status text result taken after
-named words command left taken after result names (input, status, text, is, inl owed, d) = (input, status, text, is, inl (command, names, owed), d)
-named words command left taken after result names (input, status, text, is, inr failed, d) = (input, status, text, is, inr (inl failed), d)
+  pub named : (command : Command) (left taken after : Option (List ℕ)) (result : Status) → Names words command → Takes command → ComesOut command left result taken after
+      → (input : List ℕ) × (status : Status) × (text : List ℕ) × IsInput left input × Settles Takes words input status text × Delivers status text result taken after
+  named command left taken after result names takes (input, status, text, is, inl owed, d) = (input, status, text, is, inl (command, names, takes, owed), d)
+  named command left taken after result names takes (input, status, text, is, inr failed, d) = (input, status, text, is, inr (inl failed), d)
 
--- no memory to read the words
-pub memory_comes : (words : List (List ℕ)) (left taken after : Option (List ℕ)) (result : Status) → Delivers Memory (status_line Memory) result taken after
-    → (input : List ℕ) × (status : Status) × (text : List ℕ) × IsInput left input × Settles words input status text × Delivers status text result taken after
-memory_comes words None taken after result d = ([], Memory, status_line Memory, tt, inr (inl (inr refl, refl)), d)
-memory_comes words (Some bytes) taken after result d = (bytes, Memory, status_line Memory, refl, inr (inl (inr refl, refl)), d)
+  -- no memory to read the words
+  pub memory_comes : (left taken after : Option (List ℕ)) (result : Status) → Delivers Memory (status_line Memory) result taken after
+      → (input : List ℕ) × (status : Status) × (text : List ℕ) × IsInput left input × Settles Takes words input status text × Delivers status text result taken after
+  memory_comes None taken after result d = ([], Memory, status_line Memory, tt, inr (inl (inr refl, refl)), d)
+  memory_comes (Some bytes) taken after result d = (bytes, Memory, status_line Memory, refl, inr (inl (inr refl, refl)), d)
 
 pub memory_whole : {P : Type 0} (text : List ℕ) (result : Status) (taken after : Option (List ℕ)) → Delivers Memory text result taken after → SaysNothing result ⊎ P
 memory_whole text result taken after (inl d) = inl (inr (inr (inr d.0)))
@@ -321,3 +340,17 @@ module _ (command : Command) (flips limit number l n : ℕ) (input : List ℕ) (
   pub trial_refused : {X : Type 0} (r : Result X Refusal) → IfErr r (λ refusal. (input : List ℕ) → IsRefusalOf (Trial flips l n) input refusal.status) → IfErr r (λ refusal. IsRefusalOf command input refusal.status)
   trial_refused (Ok x) h = tt
   trial_refused (Err refusal) h = subst (λ (c : Command). IsRefusalOf c input refusal.status) trial_is (h input)
+
+-- what is owed to the input that was read is owed to some input that the source had left
+pub output_owed : {X : Type 0} (command : Command) (left : Option (List ℕ)) (input : List ℕ) (items : X → List ℕ) (r : Result X Refusal) → IsInput left input → IfOk r (λ x. Owes command input Done (items x))
+    → IfOk r (λ x. SomeInput left (λ input. Owes command input Done (items x)))
+output_owed command left input items (Ok x) is owed = (input, is, owed)
+output_owed command left input items (Err refusal) is owed = tt
+
+-- what `group` owes and refuses, by the numbers of its words
+module _ {X : Type 0} (flips limit workers l n : ℕ) (input : List ℕ) (same : l ≡ limit) (also : n ≡ workers) (r : Result X Refusal) where
+  pub group_owed : (items : X → List ℕ) → IfOk r (λ text. Owes (Group flips l n) input Done (items text)) → IfOk r (λ text. Owes (Group flips limit workers) input Done (items text))
+  group_owed items h = subst (λ (c : Command). IfOk r (λ text. Owes c input Done (items text))) (λ i. Group flips (same i) (also i)) h
+
+  pub group_refused : IfErr r (λ refusal. IsRefusalOf (Group flips l n) input refusal.status) → IfErr r (λ refusal. IsRefusalOf (Group flips limit workers) input refusal.status)
+  group_refused h = subst (λ (c : Command). IfErr r (λ refusal. IsRefusalOf c input refusal.status)) (λ i. Group flips (same i) (also i)) h

@@ -10,7 +10,7 @@ use Rattle.answer_text.specs.declared.no_cause.NoCause.TheVariants.{Wall}
 use Rattle.answer_text.specs.declared.place.Place.{Place}
 use Rattle.quad_field.specs.declared.formula.Formula.{Formula}
 use Rattle.command_words.specs.declared.command.Command.{Command}
-use Rattle.command_words.specs.declared.command.Command.TheVariants.{Check, Base, Region, Path, Plain, Make, Trial}
+use Rattle.command_words.specs.declared.command.Command.TheVariants.{Check, Base, Region, Path, Plain, Group, Make, Trial}
 use Rattle.veech_cli.specs.Writings.{Writing, trial_text, plain_text}
 use Rattle.veech_cli.specs.Owed.{ReadsInput, Owes, AnswersAt, IsRegionAnswer, IsPathAnswer, IsPlainAnswer}
 use Rattle.veech_cli.specs.Runs.{SaysNothing}
@@ -90,6 +90,8 @@ module _ (status : Status) (text : List ℕ) where
       answer_apart (λ at. IsPathAnswer file.field choices) (λ at later. path_apart file.field choices later) at ending answer
   owed_apart (Plain flips limit summary) input (inr (file, works, (halves, t, (at, ending, ends, answer)))) =
       answer_apart (IsPlainAnswer (plain_text summary) file.field limit) (plain_apart (plain_text summary) file.field limit) at ending answer
+  owed_apart (Group flips limit workers) input (inr (file, works, (halves, t, (at, ending, ends, answer)))) =
+      answer_apart (IsPlainAnswer (plain_text false) file.field limit) (plain_apart (plain_text false) file.field limit) at ending answer
   owed_apart (Make number) input (inr (file, works, (is, spelled))) = other_than status Done ReadFault done_apart is
   owed_apart (Trial flips limit number) input (inr (file, works, (halves, t, (at, ending, ends, answer)))) =
       answer_apart (IsPlainAnswer (trial_text number) file.field limit) (plain_apart (trial_text number) file.field limit) at ending answer

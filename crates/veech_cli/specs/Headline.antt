@@ -1,4 +1,4 @@
--- What a closed run of `plain` or `trial` has written.
+-- What a closed run of `plain`, `group` or `trial` has written.
 use Rattle.std.specs.Prelude.{◌≡◌, ◌↔◌, ℕ, ℤ, List}
 use Rattle.std.specs.List.{Contains}
 use Rattle.surface_text.specs.Spelling.{Content}

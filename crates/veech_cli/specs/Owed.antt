@@ -1,6 +1,6 @@
 -- What a command owes an input: a status, and the text that is written with it. Every other answer of a run is a failure of an end,
 -- want of memory, or a refusal of the words.
-use Rattle.std.specs.Prelude.{◌≡◌, ◌↔◌, ℕ, ◌<◌, ℤ, ◌⊎◌, ⊤, Bool, IsTrue, Option, List, length}
+use Rattle.std.specs.Prelude.{◌≡◌, ◌↔◌, ℕ, ◌<◌, ℤ, ◌⊎◌, ⊤, Bool, false, IsTrue, Option, List, length}
 use Rattle.surface_text.specs.Spelling.{Content, text as file_text}
 use Rattle.surface_text.specs.declared.file.Point.{Point}
 use Rattle.plane.specs.Matrices.{FieldMatrix}
@@ -27,7 +27,7 @@ use Rattle.parabola_region.specs.Instances.{IsWideInstance}
 use Rattle.answer_text.specs.Lines.{status_line}
 use Rattle.answer_text.specs.CheckTexts.{counts_text}
 use Rattle.command_words.specs.declared.command.Command.{Command}
-use Rattle.command_words.specs.declared.command.Command.TheVariants.{Check, Base, Region, Path, Plain, Make, Trial}
+use Rattle.command_words.specs.declared.command.Command.TheVariants.{Check, Base, Region, Path, Plain, Group, Make, Trial}
 use Rattle.family_gen.specs.Families.{family_of}
 use Rattle.veech_cli.specs.SurfaceFiles.{IsAccepted, IsTriangulationOf, IsRefused}
 use Rattle.veech_cli.specs.Endings.{points_of, status_of_ending, text_of_ending}
@@ -104,6 +104,8 @@ Answers (Region flips) file status text = OnTriangulation (AnswersFromBase flips
 Answers (Path flips choices) file status text = OnTriangulation (AnswersFromBase flips (λ at. IsPathAnswer file.field choices)) file status text
 -- `plain`: the classes that are reached from the base and their matrices, as a report or a summary
 Answers (Plain flips limit summary) file status text = OnTriangulation (AnswersFromBase flips (IsPlainAnswer (plain_text summary) file.field limit)) file status text
+-- `group`: what `plain` answers with the report, whatever the number of workers
+Answers (Group flips limit workers) file status text = OnTriangulation (AnswersFromBase flips (IsPlainAnswer (plain_text false) file.field limit)) file status text
 -- `make`: Done, with the text of the file
 Answers (Make number) file status text = (status ≡ Done) × (text ≡ file_text file)
 -- `trial`: what `plain` answers, with its number and the summary

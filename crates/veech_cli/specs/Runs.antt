@@ -1,5 +1,5 @@
 -- What a run settles on, and what it hands out.
-use Rattle.std.specs.Prelude.{◌≡◌, ℕ, ◌<◌, ◌⊎◌, List, [], length, take, IfSome}
+use Rattle.std.specs.Prelude.{◌≡◌, ℕ, ◌<◌, ◌⊎◌, ⊤, List, [], length, take, IfSome}
 use Rattle.std.specs.Option.{option_map}
 use Rattle.std.specs.declared.option.Option.{Option}
 use Rattle.io_ends.specs.Ends.{given, taken_after}
@@ -7,7 +7,8 @@ use Rattle.answer_text.specs.declared.status.Status.{Status}
 use Rattle.answer_text.specs.declared.status.Status.TheVariants.{Words, ReadFault, WriteFault, Memory}
 use Rattle.answer_text.specs.Lines.{status_line}
 use Rattle.command_words.specs.declared.command.Command.{Command}
-use Rattle.command_words.specs.Commands.{Names, AreTaken}
+use Rattle.command_words.specs.declared.command.Command.TheVariants.{Group}
+use Rattle.command_words.specs.Commands.{Names}
 use Rattle.veech_cli.specs.Owed.{Owes}
 
 -- the input couldn't be had, or no answer to it: the source failed, or memory ran out
@@ -18,12 +19,26 @@ IsFailure status = (status ≡ ReadFault) ⊎ (status ≡ Memory)
 abbrev pub SettlesOn : Command → List ℕ → Status → List ℕ → Type 0
 SettlesOn command input status text = Owes command input status text ⊎ (IsFailure status × (text ≡ status_line status))
 
--- what a run of any words settles on: what the command owes the input that they name, a failure with its line, or that they name none
-abbrev pub Settles : List (List ℕ) → List ℕ → Status → List ℕ → Type 0
-Settles words input status text =
-    ((command : Command) × Names words command × Owes command input status text)
+-- the commands of a call that has workers: all
+abbrev pub IsCommand : Command → Type 0
+IsCommand command = ⊤
+
+-- the commands of a call without workers: all but `group`
+abbrev pub IsPlainCommand : Command → Type 0
+IsPlainCommand (Group flips limit workers) = ⊥
+IsPlainCommand command = ⊤
+
+-- the words name one of these commands
+abbrev pub NameOne : (Command → Type 0) → List (List ℕ) → Type 0
+NameOne Takes words = (command : Command) × Names words command × Takes command
+
+-- what a run of any words settles on, of a call that takes these commands: what the command owes the input that they name, a failure with its line, or that they
+-- name none of these
+abbrev pub Settles : (Command → Type 0) → List (List ℕ) → List ℕ → Status → List ℕ → Type 0
+Settles Takes words input status text =
+    ((command : Command) × Names words command × Takes command × Owes command input status text)
     ⊎ (IsFailure status × (text ≡ status_line status))
-    ⊎ (¬ (AreTaken words) × (status ≡ Words) × (text ≡ status_line Words))
+    ⊎ (¬ (NameOne Takes words) × (status ≡ Words) × (text ≡ status_line Words))
 
 -- the input is what the source had left, where it tells it
 abbrev pub IsInput : Option (List ℕ) → List ℕ → Type 0

@@ -1,12 +1,13 @@
 //! The laws of inputs and of what they are owed, each the contract of a function that does nothing: an input is accepted as one file,
-//! or refused for one cause in one line, never both, a command owes it one status, and one report, and a report that it owes is closed.
+//! or refused for one cause in one line, never both, a command owes it one status, and one report, `group` owes what `plain` does, and a
+//! report that is owed is closed.
 
-ghost use Rattle.std.specs.Prelude.{◌≡◌, ◌⊎◌, ℕ, Bool, List};
+ghost use Rattle.std.specs.Prelude.{◌≡◌, ◌↔◌, ◌⊎◌, ℕ, Bool, false, List};
 ghost use Rattle.surface_text.specs.Spelling.{Content};
 ghost use Rattle.answer_text.specs.declared.status.Status.{Status};
 ghost use Rattle.answer_text.specs.declared.status.Status.TheVariants.{Done};
 ghost use Rattle.command_words.specs.declared.command.Command.{Command};
-ghost use Rattle.command_words.specs.declared.command.Command.TheVariants.{Plain, Trial};
+ghost use Rattle.command_words.specs.declared.command.Command.TheVariants.{Plain, Group, Trial};
 ghost use Rattle.family_gen.specs.Families.{family_of};
 ghost use Rattle.veech_cli.specs.Writings.{trial_text, plain_text};
 ghost use Rattle.veech_cli.specs.SurfaceFiles.{IsAccepted, IsRefused};
@@ -50,6 +51,12 @@ pub fn one_report()
         → Owes (Plain flips other summary) input Done line → text ≡ line }
     ensures trial { (flips limit other number : ℕ) (input text line : List ℕ) → Owes (Trial flips limit number) input Done text
         → Owes (Trial flips other number) input Done line → text ≡ line }
+{}
+
+/// What `group` owes an input is what `plain` owes it, for every number of workers.
+pub fn group_is_plain()
+    ensures { (flips limit workers : ℕ) (input : List ℕ) (status : Status) (text : List ℕ)
+        → Owes (Group flips limit workers) input status text ↔ Owes (Plain flips limit false) input status text }
 {}
 
 /// A report that is owed is closed, and so is its summary: it has exactly the classes that crossings reach from the base, and matrices

@@ -1,16 +1,19 @@
 //! The command `plain`.
 
-ghost use Rattle.std.specs.Prelude.{◌≡◌, ◌≤◌, length, map, IfOk, IfErr, ℕ, ℤ, List};
+ghost use Rattle.std.specs.Prelude.{◌≡◌, ◌≤◌, length, vec_len, map, Err, IfOk, IfErr, ℕ, ℤ, List};
 ghost use Rattle.std.specs.Ordering.{int_cmp};
 ghost use Rattle.std.specs.Cmp.Lexicographic.{slice_cmp};
 ghost use Rattle.surface_text.specs.Limits.{IsBasePoint};
 ghost use Rattle.quad_field.specs.FieldNumber.{IsFieldNumber};
 ghost use Rattle.terrain.specs.Places.{IsAt};
 ghost use Rattle.terrain.specs.Graphs.{IsGraph};
+ghost use Rattle.terrain.specs.Causes.{MoreAreReached, IsStuckWithin};
 ghost use Rattle.canon_code.specs.Codes.{IsCode};
 ghost use Rattle.canon_code.specs.Canonical.{canonical};
 ghost use Rattle.class_node.specs.Classes.{field_numbers, IsClassOver, HasWalls};
 ghost use Rattle.class_node.specs.Leads.{IsFrame, AreFrames, LeadsBy};
+ghost use Rattle.class_node.specs.Stuck.{IsStuck, IsStuckAt};
+ghost use Rattle.class_node.specs.declared.fault.ClassFault.{ClassFault as Fault};
 ghost use Rattle.returning.specs.Turns.{AreTurns};
 ghost use Rattle.answer_text.specs.declared.status.Status.TheVariants.{Done};
 ghost use Rattle.command_words.specs.declared.command.Command.TheVariants.{Plain};
@@ -75,12 +78,35 @@ pub(crate) fn report_of(alloc: Global, f: Field, base: &Base, limit: u32) -> Res
     ensures report { IfOk result (λ report. IsReportOf base.now.tri.field limit base.now.point base.now.tri.halves report) }
     ensures refused { IfErr result (λ refusal. RefusesPlain base.now.tri.field base.now.tri.halves limit refusal.status) }
 {
-    let field = f.number();
+    let _number = f.number();
     let terrain = ClassTerrain::make(f);
     let (root, frame) = root_of(alloc, &terrain, base)?;
     let graph = graph_of(alloc, &terrain, base, &root, limit)?;
-    let turns = turns_of(alloc, &terrain, graph.keys.as_slice())?;
-    let mats = matrices_of(alloc, &f, base, &graph, &frame, turns.as_slice(), limit)?;
+    report_from(alloc, &f, &terrain, base, &frame, graph, limit)
+}
+
+/// The report of a base with this frame and this graph.
+pub(crate) fn report_from(
+    alloc: Global,
+    f: &Field,
+    terrain: &ClassTerrain,
+    base: &Base,
+    frame: &Mat2,
+    graph: Graph<ClassTerrain>,
+    limit: u32,
+) -> Result<Report, Refusal>
+    requires field { f.now ≡ base.now.tri.field }
+    requires terrain { terrain.now ≡ base.now.tri.field }
+    requires graph { (root : List ℤ) × IsCode base.now.tri.field base.now.tri.halves root × IsFrame base.now.tri.field base.now.tri.halves root frame.now
+        × IsGraph (slice_cmp int_cmp) (HasWalls (field_numbers base.now.tri.field)) (LeadsBy (field_numbers base.now.tri.field)) root graph.keys.items (map (λ v. v.items) graph.leads.items) graph.root }
+    requires own { (i : ℕ) (code : List ℤ) → IsAt graph.keys.items i code → ∥ IsClassOver base.now.tri.field code ∥₁ }
+    requires classes { AreClassesWithin base.now.tri.field base.now.tri.halves limit graph.keys.items }
+    ensures report { IfOk result (λ report. IsReportOf base.now.tri.field limit base.now.point base.now.tri.halves report) }
+    ensures refused { IfErr result (λ refusal. RefusesPlain base.now.tri.field base.now.tri.halves limit refusal.status) }
+{
+    let field = f.number();
+    let turns = turns_of(alloc, terrain, graph.keys.as_slice())?;
+    let mats = matrices_of(alloc, f, base, &graph, frame, turns.as_slice(), limit)?;
     Ok(Report {
         field,
         point: base.point,
@@ -90,7 +116,11 @@ pub(crate) fn report_of(alloc: Global, f: Field, base: &Base, limit: u32) -> Res
 }
 
 /// The code of a base, and its frame.
-fn root_of(alloc: Global, terrain: &ClassTerrain, base: &Base) -> Result<(Code, Mat2), Refusal>
+pub(crate) fn root_of(
+    alloc: Global,
+    terrain: &ClassTerrain,
+    base: &Base,
+) -> Result<(Code, Mat2), Refusal>
     requires { terrain.now ≡ base.now.tri.field }
     ensures code { IfOk result (λ r. IsCode base.now.tri.field base.now.tri.halves r.0) }
     ensures own { IfOk result (λ r. ∥ IsClassOver base.now.tri.field r.0 ∥₁) }
@@ -129,10 +159,34 @@ fn graph_of(
     ensures classes { IfOk result (λ g. AreClassesWithin base.now.tri.field base.now.tri.halves limit g.keys.items) }
     ensures refused { IfErr result (λ refusal. RefusesClasses base.now.tri.field base.now.tri.halves limit refusal.status) }
 {
+    let explored = explore_one(alloc, terrain, root, limit);
+    classes_of(terrain, base, root, limit, explored)
+}
+
+/// The same, of an exploration of the terrain from that code: what it found, or why there is no report.
+pub(crate) fn classes_of(
+    terrain: &ClassTerrain,
+    base: &Base,
+    root: &Code,
+    limit: u32,
+    explored: Result<Graph<ClassTerrain>, ExploreFault<ClassTerrain>>,
+) -> Result<Graph<ClassTerrain>, Refusal>
+    requires field { terrain.now ≡ base.now.tri.field }
+    requires number { IsFieldNumber base.now.tri.field }
+    requires root { IsCode base.now.tri.field base.now.tri.halves root.now }
+    requires found { IfOk explored (λ g. IsGraph (slice_cmp int_cmp) (HasWalls (field_numbers terrain.now)) (LeadsBy (field_numbers terrain.now)) root.now (map (λ code. code) g.keys.items) (map (λ v. v.items) g.leads.items) g.root) }
+    requires few { IfOk explored (λ g. vec_len g.keys ≤ limit) }
+    requires limit { explored ≡ Err ExploreFault.Limit → MoreAreReached (HasWalls (field_numbers terrain.now)) (LeadsBy (field_numbers terrain.now)) root.now limit }
+    requires fault { (key : List ℤ) (fault : Fault) → explored ≡ Err (ExploreFault.Fault key fault) → IsStuckWithin (HasWalls (field_numbers terrain.now)) (LeadsBy (field_numbers terrain.now)) (IsStuck (field_numbers terrain.now)) (IsStuckAt (field_numbers terrain.now)) root.now key fault }
+    ensures graph { IfOk result (λ g. IsGraph (slice_cmp int_cmp) (HasWalls (field_numbers base.now.tri.field)) (LeadsBy (field_numbers base.now.tri.field)) root.now g.keys.items (map (λ v. v.items) g.leads.items) g.root) }
+    ensures own { IfOk result (λ g. (i : ℕ) (code : List ℤ) → IsAt g.keys.items i code → ∥ IsClassOver base.now.tri.field code ∥₁) }
+    ensures classes { IfOk result (λ g. AreClassesWithin base.now.tri.field base.now.tri.halves limit g.keys.items) }
+    ensures refused { IfErr result (λ refusal. RefusesClasses base.now.tri.field base.now.tri.halves limit refusal.status) }
+{
     let _triangles = base.tri.triangles();
     keys_of_a_graph_are_reached_codes();
     reached_keys_are_reached_codes();
-    match explore_one(alloc, terrain, root, limit) {
+    match explored {
         Ok(graph) => Ok(graph),
         Err(ExploreFault::Limit) => Err(Refusal {
             status: Status::LimitPassed { limit },

@@ -8,32 +8,36 @@ ghost use Rattle.answer_text.specs.Statuses.{number_of};
 ghost use Rattle.command_words.specs.declared.command.Command.{Command};
 ghost use Rattle.command_words.specs.Commands.{Names, AreTaken};
 ghost use Rattle.veech_cli.specs.Owed.{ReadsInput, Owes, IsOptional};
-ghost use Rattle.veech_cli.specs.Runs.{Settles, Delivers, IsInput};
+ghost use Rattle.veech_cli.specs.Runs.{IsCommand, Settles, Delivers, IsInput};
 ghost use Rattle.veech_cli.specs.Programs.{words_given};
 
-use super::run::run_plain;
+use super::workers::run;
 use super::{Status, WordList, status_number};
-use io_ends::{Sink, Source};
+use io_ends::{Gate, Sink, Source};
 use std::alloc::{AllocError, Global};
 use std::env::Args;
 use std::io;
 use std::io::ErrorKind;
 use std::process::ExitCode;
+use std::sync::Wait;
+use std::thread::Threads;
 
 /// Runs the command that the arguments name on the bytes of the source, writes its text to the sink, and answers with the number
 /// of the status. The first argument is the program's name, and no word. Arguments that can't be had as text are no words at all,
 /// which is a faulty command line too.
-pub fn run_program<S: Source, K: Sink>(
+pub fn run_program<R: Threads + Wait + Sync, S: Source, K: Sink, G: Gate>(
+    rt: &R,
     alloc: Global,
     args: io::Result<Args>,
     source: &mut S,
     sink: &mut K,
+    gate: &G,
 ) -> ExitCode
     // What these words and the input settle is what is answered and written, by the number of the status. Or the words couldn't be
     // kept for want of memory: then nothing is read, and nothing written.
     ensures outcome { ((input : List ℕ) × (status : Answer) × (text : List ℕ) × (last : Answer)
         × IsInput (S.left source.old) input
-        × Settles (words_given args) input status text
+        × Settles IsCommand (words_given args) input status text
         × Delivers status text last (K.taken sink.old) (K.taken sink.new)
         × (exit_status result ≡ number_of last))
         ⊎ ((exit_status result ≡ number_of Answer.Memory) × (source.new ≡ source.old) × (sink.new ≡ sink.old)) }
@@ -60,7 +64,7 @@ pub fn run_program<S: Source, K: Sink>(
 {
     match words_of(alloc, args) {
         Ok(words) => {
-            let status = run_plain(alloc, &words, source, sink);
+            let status = run(rt, alloc, &words, source, sink, gate);
             exit_code(&status)
         }
         Err(AllocError) => {

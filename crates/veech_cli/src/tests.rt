@@ -3,6 +3,7 @@
 ghost use Rattle.std.specs.Prelude.{◌≤◌};
 
 mod examples;
+mod group;
 mod plain;
 mod trial;
 

@@ -17,11 +17,11 @@ use std::alloc::{AllocError, Global};
 use std::test::Fail;
 
 /// A torus with a second marked point that isn't rational in its lattice.
-const MARKED_TORUS: &[u8] =
+pub(super) const MARKED_TORUS: &[u8] =
     b"flat 1\nfield 2\npolygon 2,0 -4+2r,1 2-2r,-1\npolygon 0,2 -4+2r,-1 4-2r,-1\npolygon -2,0 -2+2r,-1 4-2r,1\npolygon 0,-2 -2+2r,1 2-2r,1\nglue 0.0 2.0\nglue 1.0 3.0\nglue 0.1 1.2\nglue 1.1 2.2\nglue 2.1 3.2\nglue 3.1 0.2\nend\n";
 
 /// Ends that never fail, with room for long reports.
-fn roomy() -> Ends {
+pub(super) fn roomy() -> Ends {
     Ends {
         most: 65536,
         failing_read: None,

@@ -1,44 +1,12 @@
-use Rattle.std.proofs.Common.{ℕ, ◌∙◌, List, inl, inr, refl, sym, subst}
-use Rattle.std.specs.Prelude.{ℤ}
+use Rattle.std.proofs.Common.{inl, inr, subst}
 use Rattle.std.proofs.lemmas.Result.{err_from_is_err_and}
 use Rattle.quad_field.specs.FieldNumber.{IsFieldNumber}
-use Rattle.terrain.specs.Places.{IsAt}
-use Rattle.class_node.specs.Classes.{IsClassOver}
-use Rattle.veech_cli.specs.Surfaces.{RefusesTurns}
-use Rattle.veech_cli.proofs.Grouped.{turns_refuse}
 use Rattle.veech_cli.proofs.plain.report_of.Goals as goal
 
 pub graph_of-requires-clause-number : goal.graph_of-requires-clause-number
-graph_of-requires-clause-number c = subst IsFieldNumber c.requires.field c.number-field.ensures.valid
+graph_of-requires-clause-number c = subst IsFieldNumber c.requires.field c.number-number.ensures.valid
 
 pub returns-in_err-graph-clause-refused : goal.returns-in_err-graph-clause-refused
 returns-in_err-graph-clause-refused c =
     let p = err_from_is_err_and c.from_residual-in_err-graph.result c.from_residual-in_err-graph.ensures.1 in
     rw (p.1, p.2) (inr (inl c.in_err-graph.ensures.refused))
-
-pub turns_of-requires : goal.turns_of-requires
-turns_of-requires c = record {
-  own = λ i code at.
-      subst (λ (d : ℕ). ∥ IsClassOver d code ∥₁) (sym (c.make-terrain.ensures ∙ c.requires.field))
-      (c.in_ok-graph.ensures.own i code (subst (λ (keys : List (List ℤ)). IsAt keys i code) c.as_slice.ensures.value at));
-}
-
-pub returns-in_err-turns-clause-refused : goal.returns-in_err-turns-clause-refused
-returns-in_err-turns-clause-refused c =
-    let p = err_from_is_err_and c.from_residual-in_err-turns.result c.from_residual-in_err-turns.ensures.1 in
-    rw (p.1, p.2) (inr (inl (turns_refuse c.args.base.now.tri.field c.args.base.now.tri.halves c.args.limit c.in_ok-graph.graph.keys.items c.in_err-turns.field-0.0.status c.in_ok-graph.ensures.classes
-    (subst (λ (keys : List (List ℤ)). RefusesTurns c.args.base.now.tri.field keys c.in_err-turns.field-0.0.status) c.as_slice.ensures.value
-    (subst (λ (d : ℕ). RefusesTurns d c.as_slice.result.now c.in_err-turns.field-0.0.status) (c.make-terrain.ensures ∙ c.requires.field) c.in_err-turns.ensures.refused)))))
-
-pub returns-in_err-mats-clause-refused : goal.returns-in_err-mats-clause-refused
-returns-in_err-mats-clause-refused c =
-    let p = err_from_is_err_and c.from_residual-in_err-mats.result c.from_residual-in_err-mats.ensures.1 in
-    rw (p.1, p.2) (inr (inr c.in_err-mats.ensures.refused))
-
-pub returns-clause-report : goal.returns-clause-report
-returns-clause-report c = record {
-  field = c.number-field.ensures.number ∙ c.requires.field;
-  point = refl;
-  classes = c.in_ok-graph.ensures.classes;
-  matrices = c.in_ok-mats.ensures.matrices;
-}

@@ -1,6 +1,6 @@
 use Rattle.answer_text.specs.declared.status.Status.TheVariants.{ReadFault}
 use Rattle.veech_cli.proofs.Settling.{refusal_out, refusal_whole, refusal_read, refusal_comes, output_not}
-use Rattle.veech_cli.proofs.run.answer.Goals as goal
+use Rattle.veech_cli.proofs.one_thread.answer.Goals as goal
 
 pub returns-in-Ok-clause-unread : goal.returns-in-Ok-clause-unread
 returns-in-Ok-clause-unread g c = λ none. (

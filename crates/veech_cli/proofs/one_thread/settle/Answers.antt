@@ -1,7 +1,7 @@
 use Rattle.std.proofs.lemmas.Result.{err_from_is_err_and, IfOk-at_ok}
 use Rattle.veech_cli.proofs.Settling.{reading_settles, reading_whole, output_settles, owed_whatever, settles_whatever}
 use Rattle.veech_cli.proofs.Unread.{none_read, is_read, output_blameless, output_no_fault, unread_whole}
-use Rattle.veech_cli.proofs.run.settle.Goals as goal
+use Rattle.veech_cli.proofs.one_thread.settle.Goals as goal
 
 pub returns-then-not-reads_input-clause-owed : goal.returns-then-not-reads_input-clause-owed
 returns-then-not-reads_input-clause-owed g c =

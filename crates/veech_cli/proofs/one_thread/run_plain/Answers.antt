@@ -1,48 +1,50 @@
 use Rattle.std.specs.Prelude.{◌≡◌, false, true}
 use Rattle.answer_text.specs.declared.status.Status.TheVariants.{ReadFault}
 use Rattle.command_words.specs.declared.command.Command.TheVariants.{Check, Make}
+use Rattle.veech_cli.specs.Runs.{IsPlainCommand}
+use Rattle.veech_cli.proofs.Taken.{plain_unless_reads}
 use Rattle.veech_cli.proofs.Settling.{complete, complete_unread, accepted, makes, comes_named}
 use Rattle.veech_cli.proofs.Closed.{headline, trial_headline, made_text}
-use Rattle.veech_cli.proofs.run.run_plain.Goals as goal
+use Rattle.veech_cli.proofs.one_thread.run_plain.Goals as goal
 
 pub returns-clause-headline : goal.returns-clause-headline
 returns-clause-headline g c = λ flips limit names done.
-    headline c.args.words.now (g.K.Sink.taken c.args.sink.now) (g.K.Sink.taken c.run_words.new.sink) c.run_words.result done c.reports_are_closed.ensures.plain
+    headline IsPlainCommand c.args.words.now (g.K.Sink.taken c.args.sink.now) (g.K.Sink.taken c.run_words.new.sink) c.run_words.result done c.reports_are_closed.ensures.plain
     (g.S.Source.left c.args.source.now) c.run_words.ensures.outcome flips limit false names
 
 pub returns-clause-summary : goal.returns-clause-summary
 returns-clause-summary g c = λ flips limit names done.
-    headline c.args.words.now (g.K.Sink.taken c.args.sink.now) (g.K.Sink.taken c.run_words.new.sink) c.run_words.result done c.reports_are_closed.ensures.plain
+    headline IsPlainCommand c.args.words.now (g.K.Sink.taken c.args.sink.now) (g.K.Sink.taken c.run_words.new.sink) c.run_words.result done c.reports_are_closed.ensures.plain
     (g.S.Source.left c.args.source.now) c.run_words.ensures.outcome flips limit true names
 
 pub returns-clause-trial : goal.returns-clause-trial
 returns-clause-trial g c = λ flips limit number names done.
-    trial_headline c.args.words.now (g.K.Sink.taken c.args.sink.now) (g.K.Sink.taken c.run_words.new.sink) c.run_words.result done c.reports_are_closed.ensures.trial
+    trial_headline IsPlainCommand c.args.words.now (g.K.Sink.taken c.args.sink.now) (g.K.Sink.taken c.run_words.new.sink) c.run_words.result done c.reports_are_closed.ensures.trial
     (g.S.Source.left c.args.source.now) c.run_words.ensures.outcome flips limit number names
 
 pub returns-clause-made : goal.returns-clause-made
 returns-clause-made g c = λ number names done.
-    made_text c.args.words.now (g.K.Sink.taken c.args.sink.now) (g.K.Sink.taken c.run_words.new.sink) c.run_words.result done
+    made_text IsPlainCommand c.args.words.now (g.K.Sink.taken c.args.sink.now) (g.K.Sink.taken c.run_words.new.sink) c.run_words.result done
     (g.S.Source.left c.args.source.now) c.run_words.ensures.outcome number names
 
 pub returns-clause-complete : goal.returns-clause-complete
-returns-clause-complete g c = λ command names no_read no_write.
+returns-clause-complete g c = λ command names plain no_read no_write.
     complete c.run_words.result (g.K.Sink.taken c.args.sink.now) (g.K.Sink.taken c.run_words.new.sink) _ _ c.run_words.ensures.read_fault c.run_words.ensures.write_fault no_read no_write command (g.S.Source.left c.args.source.now)
-    (comes_named c.args.words.now command (g.S.Source.left c.args.source.now) (g.K.Sink.taken c.args.sink.now) (g.K.Sink.taken c.run_words.new.sink) c.run_words.result names c.run_words.ensures.outcome)
+    (comes_named IsPlainCommand c.args.words.now command (g.S.Source.left c.args.source.now) (g.K.Sink.taken c.args.sink.now) (g.K.Sink.taken c.run_words.new.sink) c.run_words.result names plain c.run_words.ensures.outcome)
 
 pub returns-clause-accepted : goal.returns-clause-accepted
 returns-clause-accepted g c = λ names no_read no_write.
     accepted c.run_words.result (g.K.Sink.taken c.args.sink.now) (g.K.Sink.taken c.run_words.new.sink) _ _ c.run_words.ensures.read_fault c.run_words.ensures.write_fault no_read no_write (g.S.Source.left c.args.source.now)
-    (comes_named c.args.words.now Check (g.S.Source.left c.args.source.now) (g.K.Sink.taken c.args.sink.now) (g.K.Sink.taken c.run_words.new.sink) c.run_words.result names c.run_words.ensures.outcome)
+    (comes_named IsPlainCommand c.args.words.now Check (g.S.Source.left c.args.source.now) (g.K.Sink.taken c.args.sink.now) (g.K.Sink.taken c.run_words.new.sink) c.run_words.result names tt c.run_words.ensures.outcome)
 
 pub returns-clause-complete_unread : goal.returns-clause-complete_unread
 returns-clause-complete_unread g c = λ command names none no_write.
     complete_unread c.run_words.result (g.K.Sink.taken c.args.sink.now) (g.K.Sink.taken c.run_words.new.sink) (c.run_words.result ≡ ReadFault) _ (λ e. e) c.run_words.ensures.write_fault
     (c.run_words.ensures.unread_by_number command names none).1 no_write command (g.S.Source.left c.args.source.now) none
-    (comes_named c.args.words.now command (g.S.Source.left c.args.source.now) (g.K.Sink.taken c.args.sink.now) (g.K.Sink.taken c.run_words.new.sink) c.run_words.result names c.run_words.ensures.outcome)
+    (comes_named IsPlainCommand c.args.words.now command (g.S.Source.left c.args.source.now) (g.K.Sink.taken c.args.sink.now) (g.K.Sink.taken c.run_words.new.sink) c.run_words.result names (plain_unless_reads command none) c.run_words.ensures.outcome)
 
 pub returns-clause-makes : goal.returns-clause-makes
 returns-clause-makes g c = λ number names no_write.
     makes c.run_words.result (g.K.Sink.taken c.args.sink.now) (g.K.Sink.taken c.run_words.new.sink) (c.run_words.result ≡ ReadFault) _ (λ e. e) c.run_words.ensures.write_fault
     (c.run_words.ensures.unread_by_number (Make number) names (λ reads. reads)).1 no_write number (g.S.Source.left c.args.source.now)
-    (comes_named c.args.words.now (Make number) (g.S.Source.left c.args.source.now) (g.K.Sink.taken c.args.sink.now) (g.K.Sink.taken c.run_words.new.sink) c.run_words.result names c.run_words.ensures.outcome)
+    (comes_named IsPlainCommand c.args.words.now (Make number) (g.S.Source.left c.args.source.now) (g.K.Sink.taken c.args.sink.now) (g.K.Sink.taken c.run_words.new.sink) c.run_words.result names tt c.run_words.ensures.outcome)

@@ -1,5 +1,5 @@
 use Rattle.veech_cli.proofs.Settling.{make_owed, trial_owed, trial_refused}
-use Rattle.veech_cli.proofs.run.output.Goals as goal
+use Rattle.veech_cli.proofs.one_thread.output.Goals as goal
 
 pub returns-in_ok-text-in-Make-clause-owed : goal.returns-in_ok-text-in-Make-clause-owed
 returns-in_ok-text-in-Make-clause-owed c =

@@ -1,0 +1,12 @@
+use Rattle.std.proofs.Common.{inl, inr, subst}
+use Rattle.std.proofs.lemmas.Result.{err_from_is_err_and}
+use Rattle.quad_field.specs.FieldNumber.{IsFieldNumber}
+use Rattle.veech_cli.proofs.group.report_by_workers.Goals as goal
+
+pub graph_by_workers-requires-clause-number : goal.graph_by_workers-requires-clause-number
+graph_by_workers-requires-clause-number g c lifetimes outlives = subst IsFieldNumber c.requires.field c.number-number.ensures.valid
+
+pub returns-in_err-graph-clause-refused : goal.returns-in_err-graph-clause-refused
+returns-in_err-graph-clause-refused g c =
+    let p = err_from_is_err_and c.from_residual-in_err-graph.result c.from_residual-in_err-graph.ensures.1 in
+    rw (p.1, p.2) (inr (inl c.in_err-graph.ensures.refused))
