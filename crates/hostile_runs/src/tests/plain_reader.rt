@@ -46,6 +46,9 @@ const FEW_SIDES: Refused = Refused::Cause(11);
 
 const BAD_NAME: Refused = Refused::Cause(13);
 
+/// The squares of the primes below 32.
+const SQUARES: [i64; 11] = [4, 9, 25, 49, 121, 169, 289, 361, 529, 841, 961];
+
 /// The name of a cause.
 pub(super) fn name_of(cause: u8) -> &'static str {
     match cause {
@@ -139,7 +142,9 @@ fn take_end(text: &str) -> Result<Last, Refused> {
 fn take_field(text: &str) -> Result<Last, Refused> {
     let word = text.strip_prefix("field ").ok_or(BAD_FORM)?;
     let number = natural(word).ok_or(BAD_FORM)?;
-    let has_square = (2..32).any(|root: i64| number % (root * root) == 0);
+    let has_square = SQUARES
+        .iter()
+        .any(|square| number.checked_rem(*square) == Some(0));
     if number < 2 || 1000 < number || has_square {
         return Err(BAD_FIELD);
     }
