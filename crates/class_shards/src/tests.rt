@@ -1,8 +1,8 @@
-ghost use Rattle.std.specs.Prelude.{◌≡◌, ◌∷◌, ◌≤◌, [], pos, Some, None};
+ghost use Rattle.std.specs.Prelude.{◌≡◌, ◌∷◌, ◌≤◌, [], ℕ, pos, Some, None, IfOk, vec_len, slice_get};
 ghost use Rattle.std.specs.Arc.{arc_value};
 ghost use Rattle.terrain.specs.Reach.{IsReached};
 ghost use Rattle.terrain.specs.Rings.{HasTwo, RingLeads, ring_shard};
-ghost use Rattle.walls_out.specs.Seats.{name_of, count_of, view_of};
+ghost use Rattle.walls_out.specs.Seats.{name_of, count_of, view_of, AreKeepers};
 ghost use Rattle.walls_out.specs.Views.{keeper_of};
 ghost use Rattle.walls_out.specs.declared.entry.Entry.TheVariants.{Root};
 ghost use Rattle.receipt_log.specs.Logs.{name_of_log, list_of};
@@ -14,8 +14,10 @@ use receipt_log::LogKeeper;
 use std::alloc::{AllocError, Global};
 use std::marker::Brand;
 use std::process::Abort;
-use std::sync::Arc;
+use std::sync::{Arc, Wait};
 use std::test::*;
+use std::thread;
+use std::thread::Threads;
 use terrain::Ring;
 use walls_out::{Count, CountSeat};
 
@@ -213,4 +215,95 @@ fn thousand_keys<N: Naming>(rt: &impl Abort, alloc: Global, ring: &Ring, start: 
         assert_eq!(rt; (met.tickets.len(), met.count), expected);
         seat = back;
     }
+}
+
+/// Sixteen logs with no entry.
+fn sixteen_logs(alloc: Global) -> Result<Vec<LogKeeper<u32>>, AllocError>
+    ensures len { IfOk result (λ v. vec_len v ≡ 16) }
+    ensures empty { IfOk result (λ v. (i : ℕ) (l : _) → slice_get v.items i ≡ Some l → list_of l ≡ []) }
+{
+    let mut logs = Vec::with_capacity(alloc, 16)?;
+    for _i in 0..16u32 {
+        let log = LogKeeper::start(alloc)?;
+        logs.push(log)?;
+    }
+    Ok(logs)
+}
+
+#[test]
+fn workers_share_shards_and_pass_tickets(rt: HostRuntime) -> Result<(), Fail> {
+    let ring = Ring::make(100, None);
+    let (count, mut first, keepers) = Count::start(rt.alloc(), 16)?;
+    let logs = sixteen_logs(rt.alloc())?;
+    let seat = first.split(&count);
+    two_workers::<HostRuntime, Brand>(&rt, rt.alloc(), &ring, &count, keepers, logs, seat)
+}
+
+/// Two workers, each with a ticket of the root, meet its key again in the shards that they share.
+fn two_workers<R: Threads + Wait + Abort + Sync, N: Naming + Send + Sync>(
+    rt: &R,
+    alloc: Global,
+    ring: &Ring,
+    count: &Count,
+    keepers: Vec<CountSeat>,
+    logs: Vec<LogKeeper<u32>>,
+    seat: CountSeat,
+) -> Result<(), Fail>
+    requires names { (N.terrain ≡ pos 100 ∷ []) × (N.root ≡ pos 0 ∷ []) × (N.limit ≡ 4) }
+    requires count { (name_of count.now ≡ N.count) × (count_of seat ≡ N.count) }
+    requires keepers { (vec_len keepers ≡ 16) × AreKeepers N.count keepers.items }
+    requires logs { (vec_len logs ≡ 16) × ((i : ℕ) (l : _) → slice_get logs.items i ≡ Some l → (name_of_log l ≡ N.logs i) × (list_of l ≡ [])) }
+    requires seat { ((view_of seat).keeper ≡ None) × ((view_of seat).owed ≡ Root ∷ []) }
+{
+    let shards: Shards<Ring, N> = Shards::start(alloc, keepers, logs, 4)?;
+    let root = Arc::new(alloc, 0u32)?;
+    let Ok((met, _seat)) = shards.meet(rt, alloc, ring, count, root, 2, seat) else {
+        panic!(rt; "refused")
+    };
+    let Met {
+        receipt: _,
+        tickets,
+        count: keys,
+    } = met;
+    assert_eq!(rt; (tickets.len(), keys), (2, 1));
+    let shared = &shards;
+    let again = thread::map_vec(
+        rt,
+        tickets,
+        &|ticket: Ticket<Ring, N>| -> Option<(u64, u32)>
+            requires { name_of count.now ≡ N.count }
+        { meet_again(rt, alloc, ring, count, shared, ticket) },
+    )?;
+    assert_eq!(rt; again.as_slice(), [Some((0, 1)), Some((0, 1))].as_slice());
+    let shards = shards.into_shards(alloc)?;
+    assert_eq!(rt;
+        (shards.len(), shards[0].size(), shards[1].size()),
+        (16, 1, 0)
+    );
+    Ok(())
+}
+
+/// The place of the ticket's key, and the number of keys in its shard, which meets it again with the ticket's seat.
+fn meet_again<R: Wait, N: Naming>(
+    rt: &R,
+    alloc: Global,
+    ring: &Ring,
+    count: &Count,
+    shards: &Shards<Ring, N>,
+    ticket: Ticket<Ring, N>,
+) -> Option<(u64, u32)>
+    requires { name_of count.now ≡ N.count }
+{
+    let Ticket {
+        key,
+        wall: _,
+        source: _,
+        seat,
+        of: _,
+    } = ticket;
+    let found = shards.look_up(rt, ring, &*key)?;
+    let Ok((met, _seat)) = shards.meet(rt, alloc, ring, count, key, 2, seat) else {
+        return None;
+    };
+    Some((found.place(), met.count))
 }
