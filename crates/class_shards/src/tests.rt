@@ -48,13 +48,14 @@ fn begin(alloc: Global) -> Result<Start, AllocError> {
     })
 }
 
-/// The key's holder, had at the second try where the first was refused.
-fn held(rt: &impl Abort, alloc: Global, key: u32) -> Arc<u32, Global>
+/// The key's holder. Where it is refused, and that may be, it is tried again.
+fn held(rt: &impl Abort, alloc: Global, key: u32, again: bool) -> Arc<u32, Global>
     ensures { arc_value result ≡ key }
 {
     match Arc::new(alloc, key) {
         Ok(held) => held,
         Err(_refused) => {
+            assert!(rt; again, "refused");
             let Ok(held) = Arc::new(alloc, key) else {
                 panic!(rt; "refused twice")
             };
@@ -63,7 +64,7 @@ fn held(rt: &impl Abort, alloc: Global, key: u32) -> Arc<u32, Global>
     }
 }
 
-/// A meet that is tried again where it was refused, which left the shard as it was: with one refused allocation the second try succeeds.
+/// A meet. Where it is refused, and that may be, the shard is as it was, and it is tried again: with one refused allocation the second try succeeds.
 fn meet_at_last<N: Naming>(
     rt: &impl Abort,
     alloc: Global,
@@ -72,6 +73,7 @@ fn meet_at_last<N: Naming>(
     shard: &mut Shard<Ring, N>,
     key: Arc<u32, Global>,
     seat: CountSeat,
+    again: bool,
 ) -> (Met<Ring, N>, CountSeat)
     requires count { (name_of count.now ≡ N.count) × (count_of seat ≡ N.count) }
     requires belongs { ring_shard (pos (arc_value key) ∷ []) ≡ number_of shard.old }
@@ -86,6 +88,7 @@ fn meet_at_last<N: Naming>(
     match shard.meet(alloc, ring, count, key, 2, seat) {
         Ok(met) => met,
         Err((no, key, seat)) => {
+            assert!(rt; again, "refused");
             assert!(rt; matches!(no, MeetNo::Memory));
             let after = (shard.keys.len(), shard.rows.len(), shard.places.len());
             assert_eq!(rt; after, before);
@@ -117,11 +120,11 @@ fn one_key<N: Naming>(rt: &impl Abort, alloc: Global, ring: &Ring, start: Start)
     } = start;
     let mut shard: Shard<Ring, N> = Shard::start(alloc, keeper, log, 1);
     assert!(rt; shard.look_up(ring, &0).is_none());
-    let key = held(rt, alloc, 0);
-    let (met, seat) = meet_at_last(rt, alloc, ring, &count, &mut shard, key, seat);
+    let key = held(rt, alloc, 0, false);
+    let (met, seat) = meet_at_last(rt, alloc, ring, &count, &mut shard, key, seat, false);
     assert_eq!(rt; (met.tickets.len(), met.count), (2, 1));
-    let key = held(rt, alloc, 0);
-    let (again, mut seat) = meet_at_last(rt, alloc, ring, &count, &mut shard, key, seat);
+    let key = held(rt, alloc, 0, false);
+    let (again, mut seat) = meet_at_last(rt, alloc, ring, &count, &mut shard, key, seat, false);
     assert_eq!(rt; (again.tickets.len(), again.count), (0, 1));
     assert_eq!(rt; seat.look(&count), 3);
     let Met {
@@ -144,22 +147,28 @@ fn one_key<N: Naming>(rt: &impl Abort, alloc: Global, ring: &Ring, start: Start)
 fn a_shard_of_limit_0(rt: HostRuntime) -> Result<(), Fail> {
     let ring = Ring::make(100, None);
     let start = begin(rt.alloc())?;
-    fill_up::<Brand>(&rt, rt.alloc(), &ring, start, 0);
+    fill_up::<Brand>(&rt, rt.alloc(), &ring, start, 0, false);
     Ok(())
 }
 
-/// Each allocation of a meet is refused in turn outside the gate. Where another one is, there is nothing to see.
+/// Each allocation of a meet is refused in turn outside the gate.
 #[test]
-fn a_refused_meet_changes_nothing(rt: HostRuntime) {
+fn a_refused_meet_changes_nothing(rt: HostRuntime) -> Result<(), Fail> {
     let ring = Ring::make(100, None);
-    let Ok(start) = begin(rt.alloc()) else {
-        return;
-    };
-    fill_up::<Brand>(&rt, rt.alloc(), &ring, start, 4);
+    let start = begin(rt.alloc())?;
+    fill_up::<Brand>(&rt, rt.alloc(), &ring, start, 4, true);
+    Ok(())
 }
 
 /// The shard meets one key more than its limit, then no other, and on those that it has it answers as before. The log, the entries and the tickets are the same whichever meet was refused once.
-fn fill_up<N: Naming>(rt: &impl Abort, alloc: Global, ring: &Ring, start: Start, limit: u32)
+fn fill_up<N: Naming>(
+    rt: &impl Abort,
+    alloc: Global,
+    ring: &Ring,
+    start: Start,
+    limit: u32,
+    again: bool,
+)
     requires names { (N.terrain ≡ pos 100 ∷ []) × (N.root ≡ pos 0 ∷ []) × (N.limit ≡ limit) }
     requires tables { (N.count ≡ name_of start.count) × (N.logs 0 ≡ name_of_log start.log) }
     requires few { limit ≤ 4 }
@@ -172,21 +181,21 @@ fn fill_up<N: Naming>(rt: &impl Abort, alloc: Global, ring: &Ring, start: Start,
     } = start;
     let mut shard: Shard<Ring, N> = Shard::start(alloc, keeper, log, limit);
     for i in 0..limit + 1 {
-        let key = held(rt, alloc, 16 * i);
-        let (met, back) = meet_at_last(rt, alloc, ring, &count, &mut shard, key, seat);
+        let key = held(rt, alloc, 16 * i, again);
+        let (met, back) = meet_at_last(rt, alloc, ring, &count, &mut shard, key, seat, again);
         assert_eq!(rt; (met.tickets.len(), met.count), (2, i + 1));
         assert_eq!(rt; met.receipt.place(), u64::from(i));
         seat = back;
     }
     assert_eq!(rt; seat.look(&count), u64::from(3 + 2 * limit));
-    let other = held(rt, alloc, 80);
+    let other = held(rt, alloc, 16 * (limit + 1), again);
     let Err((no, _other, seat)) = shard.meet(alloc, ring, &count, other, 2, seat) else {
         panic!(rt; "met")
     };
     assert!(rt; matches!(no, MeetNo::Full(_)));
-    let root = held(rt, alloc, 0);
-    let (again, _seat) = meet_at_last(rt, alloc, ring, &count, &mut shard, root, seat);
-    assert_eq!(rt; (again.tickets.len(), again.count), (0, limit + 1));
+    let root = held(rt, alloc, 0, again);
+    let (known, _seat) = meet_at_last(rt, alloc, ring, &count, &mut shard, root, seat, again);
+    assert_eq!(rt; (known.tickets.len(), known.count), (0, limit + 1));
 }
 
 #[test]
@@ -209,8 +218,8 @@ fn thousand_keys<N: Naming>(rt: &impl Abort, alloc: Global, ring: &Ring, start: 
     } = start;
     let mut shard: Shard<Ring, N> = Shard::start(alloc, keeper, log, 999);
     for i in 0..2000u32 {
-        let key = held(rt, alloc, 16 * (377 * i % 1000));
-        let (met, back) = meet_at_last(rt, alloc, ring, &count, &mut shard, key, seat);
+        let key = held(rt, alloc, 16 * (377 * i % 1000), false);
+        let (met, back) = meet_at_last(rt, alloc, ring, &count, &mut shard, key, seat, false);
         let expected = if i < 1000 { (2, i + 1) } else { (0, 1000) };
         assert_eq!(rt; (met.tickets.len(), met.count), expected);
         seat = back;
