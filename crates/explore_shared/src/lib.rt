@@ -3,7 +3,14 @@
 #![tactic(auto)]
 
 mod all;
+mod explore;
 mod gathered;
 mod graph;
 mod places;
+mod root;
+mod run;
 mod sorting;
+#[cfg(test)]
+mod tests;
+
+pub use explore::explore_shared;

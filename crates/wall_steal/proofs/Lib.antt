@@ -1,0 +1,4 @@
+pub mod Each
+pub mod Others
+pub mod Notes
+pub mod Steals
