@@ -5,3 +5,5 @@ pub mod Stored
 pub mod Ranked
 pub mod Graphed
 pub mod Leads
+pub mod Team
+pub mod Ends

@@ -87,7 +87,9 @@ fn explore_named<N: Naming + Send + Sync, R: Threads + Wait + Sync, T: Terrain, 
 {
     let own_seats = seats.split_off(16)?;
     let shards: Shards<T, N> = Shards::start(alloc, seats, logs, limit)?;
-    let mut hands = hands_of(alloc, workers)?;
+    let Ok(mut hands) = hands_of(alloc, workers) else {
+        return Err(ExploreFault::Memory);
+    };
     let receipt = enter_root(
         rt,
         alloc,
@@ -99,7 +101,9 @@ fn explore_named<N: Naming + Send + Sync, R: Threads + Wait + Sync, T: Terrain, 
         &mut hands[0],
         limit,
     )?;
-    let team = workers_of(alloc, hands, own_seats)?;
+    let Ok(team) = workers_of(alloc, hands, own_seats) else {
+        return Err(ExploreFault::Memory);
+    };
     let seen = run_workers(rt, alloc, team, &shards, &count, terrain, gate, limit)?;
     let shards = shards.into_shards(alloc)?;
     let all = gather(alloc, &count, shards, seen, limit)?;
