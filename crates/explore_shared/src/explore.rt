@@ -28,7 +28,7 @@ fn empty_logs<K: Numbers>(alloc: Global) -> Result<Vec<LogKeeper<K>>, AllocError
     ensures empty { IfOk result (λ v. (i : ℕ) (l : _) → slice_get v.items i ≡ Some l → list_of l ≡ []) }
 {
     let mut logs = Vec::with_capacity(alloc, 16)?;
-    for _shard in 0..16 {
+    for _shard in 0..16u32 {
         logs.push(LogKeeper::start(alloc)?)?;
     }
     Ok(logs)
