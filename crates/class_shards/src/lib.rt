@@ -3,6 +3,7 @@
 
 mod hand;
 mod lock;
+mod look;
 mod meet;
 mod met;
 mod naming;

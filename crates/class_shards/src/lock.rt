@@ -1,6 +1,6 @@
 //! A shard under its lock.
 
-ghost use Rattle.std.specs.Prelude.{◌≡◌, ◌≤◌, ◌<◌, ◌^◌, ◌+◌, ◌∷◌, ℕ, None, Some, Err, [], length, vec_len, vec_capacity, slice_get, IfOk, IfErr};
+ghost use Rattle.std.specs.Prelude.{◌≡◌, ◌≤◌, ◌<◌, ◌^◌, ◌+◌, ◌∷◌, ℕ, None, Some, Err, [], length, vec_len, vec_capacity, slice_get, IfOk, IfErr, IfSome};
 ghost use Rattle.walls_out.specs.Seats.{name_of, count_of, view_of, AreKeepers};
 ghost use Rattle.walls_out.specs.declared.entry.Entry.{Entry};
 ghost use Rattle.receipt_log.specs.Logs.{name_of_log, list_of, log_of, place_of, seen_by};
@@ -54,6 +54,20 @@ pub(crate) fn meet_in<T: Terrain, N: Naming, const I: u32>(
 {
     let mut guard = lock.lock(rt);
     guard.shard.meet(alloc, terrain, count, key, walls, seat)
+}
+
+/// A look for a key under the lock of the shard.
+pub(crate) fn look_in<T: Terrain, N: Naming, const I: u32>(
+    rt: &impl Wait,
+    lock: &Mutex<Numbered<T, N, I>>,
+    terrain: &T,
+    key: &T::Key,
+) -> Option<Receipt<T::Key>>
+    requires belongs { T.shard (T.Key.numbers key.now) ≡ I }
+    ensures { IfSome result (λ r. ((log_of r) ≡ N.logs (T.shard (T.Key.numbers key.now))) × IsAt (seen_by r) (place_of r) (T.Key.numbers key.now)) }
+{
+    let mut guard = lock.lock(rt);
+    guard.shard.look_up(terrain, key)
 }
 
 /// A fill under the lock of the shard.

@@ -101,6 +101,7 @@ impl<T: Terrain, N: Naming> Shard<T, N> {
     /// The place of the key, or where it would stand among the places.
     pub(crate) fn find(&self, terrain: &T, key: &T::Key) -> Result<u32, usize>
         ensures found { IfOk result (λ p. IsAt (keys_of (rows_of self.now)) p (T.Key.numbers key.now)) }
+        ensures within { IfOk result (λ p. p < vec_len self.now.rows) }
         ensures gap { IfErr result (IsGap T.order (keys_of (rows_of self.now)) self.now.places.items (T.Key.numbers key.now)) }
         ensures fresh { OnErr result (HasKey (rows_of self.now) (T.Key.numbers key.now) → ⊥) }
     {

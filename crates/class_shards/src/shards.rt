@@ -1,6 +1,6 @@
 //! The shards under their locks.
 
-ghost use Rattle.std.specs.Prelude.{◌≡◌, ◌≤◌, ◌^◌, ◌+◌, ◌∷◌, ℕ, None, Some, Ok, Err, [], length, vec_len, slice_get, IfOk, IfErr};
+ghost use Rattle.std.specs.Prelude.{◌≡◌, ◌≤◌, ◌^◌, ◌+◌, ◌∷◌, ℕ, None, Some, Ok, Err, [], length, vec_len, slice_get, IfOk, IfErr, IfSome};
 ghost use Rattle.walls_out.specs.Seats.{name_of, count_of, view_of, AreKeepers};
 ghost use Rattle.walls_out.specs.declared.entry.Entry.{Entry};
 ghost use Rattle.receipt_log.specs.Logs.{name_of_log, list_of, log_of, place_of, seen_by};
@@ -11,7 +11,7 @@ ghost use Rattle.class_shards.specs.Targets.{target_of};
 ghost use Rattle.class_shards.specs.Tickets.{AreNoneOrAll};
 
 use super::Naming;
-use super::lock::{Numbered, fill_in, meet_in, put_shard, take_lock};
+use super::lock::{Numbered, fill_in, look_in, meet_in, put_shard, take_lock};
 use super::met::{MeetNo, Met};
 use super::shard::Shard;
 use super::ticket::Ticket;
@@ -135,6 +135,30 @@ impl<T: Terrain, N: Naming> Shards<T, N> {
             13 => meet_in(rt, alloc, &self.lock_13, terrain, count, key, walls, seat),
             14 => meet_in(rt, alloc, &self.lock_14, terrain, count, key, walls, seat),
             _ => meet_in(rt, alloc, &self.lock_15, terrain, count, key, walls, seat),
+        }
+    }
+
+    /// The receipt of the key, where its shard has it, under that shard's lock.
+    pub fn look_up(&self, rt: &impl Wait, terrain: &T, key: &T::Key) -> Option<Receipt<T::Key>>
+        ensures { IfSome result (λ r. (log_of r ≡ N.logs (T.shard (T.Key.numbers key.now))) × IsAt (seen_by r) (place_of r) (T.Key.numbers key.now)) }
+    {
+        match terrain.shard_of(key) {
+            0 => look_in(rt, &self.lock_0, terrain, key),
+            1 => look_in(rt, &self.lock_1, terrain, key),
+            2 => look_in(rt, &self.lock_2, terrain, key),
+            3 => look_in(rt, &self.lock_3, terrain, key),
+            4 => look_in(rt, &self.lock_4, terrain, key),
+            5 => look_in(rt, &self.lock_5, terrain, key),
+            6 => look_in(rt, &self.lock_6, terrain, key),
+            7 => look_in(rt, &self.lock_7, terrain, key),
+            8 => look_in(rt, &self.lock_8, terrain, key),
+            9 => look_in(rt, &self.lock_9, terrain, key),
+            10 => look_in(rt, &self.lock_10, terrain, key),
+            11 => look_in(rt, &self.lock_11, terrain, key),
+            12 => look_in(rt, &self.lock_12, terrain, key),
+            13 => look_in(rt, &self.lock_13, terrain, key),
+            14 => look_in(rt, &self.lock_14, terrain, key),
+            _ => look_in(rt, &self.lock_15, terrain, key),
         }
     }
 

@@ -1,5 +1,10 @@
 -- Elements of which something holds, each.
 use Rattle.std.proofs.Common.{◌≡◌, ℕ, zero, suc, ◌<◌, List, [], ◌∷◌, length, drop, refl, subst, arith, slice_index_or}
+use Rattle.std.specs.Prelude.{true}
+use Rattle.std.specs.Bool.{◌==◌}
+use Rattle.std.specs.Ordering.{ordering_index}
+use Rattle.std.specs.declared.cmp.Ordering.{Ordering}
+use Rattle.std.specs.declared.cmp.Ordering.TheVariants.{Less, Equal, Greater}
 use Rattle.terrain.specs.Places.{IsAt}
 
 module _ {A : Type 0} where
@@ -32,3 +37,9 @@ module _ {A : Type 0} where
     each_dropped zero xs each i y at = each i y at
     each_dropped (suc n) [] each i y at = each i y at
     each_dropped (suc n) (x ∷ xs) each i y at = each_dropped n xs (λ j z there. each (suc j) z there) i y at
+
+-- a comparison that is equal
+pub is_equal : (o : Ordering) → true ≡ (ordering_index o == 1) → o ≡ Equal
+is_equal Less same = cc
+is_equal Equal same = refl
+is_equal Greater same = cc

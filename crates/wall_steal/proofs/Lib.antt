@@ -1,3 +1,4 @@
+pub mod Crossed
 pub mod Each
 pub mod Others
 pub mod Notes

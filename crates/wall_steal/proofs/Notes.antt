@@ -9,7 +9,6 @@ use Rattle.wall_steal.specs.declared.cause.Known.{Known}
 use Rattle.wall_steal.specs.declared.halt.HaltNote.{HaltNote}
 use Rattle.wall_steal.specs.Causes.{IsCause}
 use Rattle.wall_steal.specs.Cells.{noted_cell, noted_cause}
-use Rattle.wall_steal.specs.declared.ended.Ended.{Ended}
 use Rattle.wall_steal.specs.declared.ended.Ended.TheVariants.{Halted}
 
 pub known_is : {A : Type 0} (o : Option A) (x : A) → is_some o ≡ true → IfSome o (λ y. y ≡ x) → o ≡ Some x

@@ -1,5 +1,5 @@
 -- What contracts see of a cell for a cause, and of a note of it.
-use Rattle.std.specs.Prelude.{◌≡◌, ℕ, Option, option_map}
+use Rattle.std.specs.Prelude.{ℕ, Option, option_map}
 use Rattle.once_cell.specs.Once.{cell_name}
 use Rattle.terrain.specs.declared.terrains.Terrain as terrains
 use Rattle.terrain.specs.declared.numbers.Numbers as numbers

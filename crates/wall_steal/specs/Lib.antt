@@ -1,4 +1,5 @@
 pub mod Causes
-pub mod Outcomes
 pub mod Cells
 pub mod Deques
+pub mod Frontiers
+pub mod Outcomes

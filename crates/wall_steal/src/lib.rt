@@ -5,9 +5,11 @@
 mod cause;
 mod deques;
 mod ended;
+mod frontier;
 mod halt;
 mod hands;
 mod other;
+mod walls;
 mod workers;
 
 pub use cause::HaltCause;

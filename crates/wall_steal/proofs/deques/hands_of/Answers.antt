@@ -1,4 +1,4 @@
-use Rattle.std.proofs.Common.{◌≡◌, ◌<◌, ◌≤◌, ◌∙◌, length, map, refl, ap, arith}
+use Rattle.std.proofs.Common.{◌<◌, ◌∙◌, length, map, refl, ap, arith}
 use Rattle.wall_steal.specs.Deques.{without, own_deque, other_deques, HasRoom}
 use Rattle.wall_steal.proofs.Each.{at_read}
 use Rattle.wall_steal.proofs.Others.{each_set, told_more, told_all}

@@ -1,12 +1,15 @@
-use Rattle.std.proofs.Common.{ℕ, List, map, ap, sym, subst, ◌∙◌}
+use Rattle.std.proofs.Common.{ℕ, List, map, ap, sym, subst, ◌∙◌, arith}
 use Rattle.std.specs.Prelude.{ℤ}
 use Rattle.std.specs.Arc.{arc_value}
+use Rattle.std.proofs.lemmas.List.{length-map}
 use Rattle.std.proofs.lemmas.Result.{MatchResult-weaker}
 use Rattle.terrain.specs.Places.{IsAt}
+use Rattle.terrain.proofs.CallerLemmas.{at_within}
+use Rattle.explore_core.specs.Books.{Row, keys_of}
 use Rattle.explore_core.specs.Index.{IsIndex, IsGap}
 use Rattle.class_shards.specs.Stored.{slots_of}
 use Rattle.class_shards.specs.Views.{rows_of}
-use Rattle.class_shards.proofs.Stored.{keys_shown}
+use Rattle.class_shards.proofs.Stored.{keys_shown, rows_length}
 use Rattle.class_shards.proofs.Meetings.{new_not_there}
 use Rattle.class_shards.proofs.shard.Shard.find.Goals as goal
 
@@ -25,6 +28,18 @@ returns-clause-found g c =
     let k = numbers c.args.key.now in
     let e = ap (map (λ a. numbers (arc_value a))) c.as_slice.ensures.value ∙ keys_shown (λ a. numbers (arc_value a)) slots_of s.keys.items s.rows.items s.long in
     MatchResult-weaker c.find.result c.find.ensures.found (λ p x. subst (λ (l : List (List ℤ)). IsAt l p k) e x) (λ i x. x)
+
+pub returns-clause-within : goal.returns-clause-within
+returns-clause-within g c =
+    let numbers = g.T.Key.Numbers.numbers in
+    let s = c.args.self.now in
+    let rows = rows_of s in
+    let k = numbers c.args.key.now in
+    let e = ap (map (λ a. numbers (arc_value a))) c.as_slice.ensures.value ∙ keys_shown (λ a. numbers (arc_value a)) slots_of s.keys.items s.rows.items s.long in
+    let m = length-map rows (λ (x : Row _). x.key) in
+    let l = rows_length (λ a. numbers (arc_value a)) slots_of s.keys.items s.rows.items s.long in
+    let ok = s.rows.ok.0 in
+    MatchResult-weaker c.find.result c.find.ensures.found (λ p x. let h = at_within (keys_of rows) p k (subst (λ (l : List (List ℤ)). IsAt l p k) e x) in omega arith) (λ i x. x)
 
 pub returns-clause-gap : goal.returns-clause-gap
 returns-clause-gap g c =

@@ -1,26 +1,11 @@
-use Rattle.std.proofs.Common.{◌≡◌, ◌∷◌, [], ◌++◌, ◌∙◌, List, refl, sym, subst, inl, inr, arith}
+use Rattle.std.proofs.Common.{◌≡◌, ◌∷◌, [], ◌++◌, ◌∙◌, List, refl, sym, subst, inl, inr}
 use Rattle.std.specs.Arc.{arc_value}
-use Rattle.std.proofs.lemmas.List.{length-map}
 use Rattle.terrain.specs.Places.{IsAt}
-use Rattle.terrain.proofs.CallerLemmas.{at_within}
 use Rattle.explore_core.specs.Books.{Row, HasKey, keys_of, empty_row}
-use Rattle.class_shards.specs.Stored.{rows_in, slots_of}
+use Rattle.class_shards.specs.Stored.{rows_in}
 use Rattle.class_shards.specs.Views.{rows_of}
 use Rattle.class_shards.proofs.Meetings.{has_at}
-use Rattle.class_shards.proofs.Stored.{rows_length}
 use Rattle.class_shards.proofs.shard.Shard.meet.Goals as goal
-
-pub note-requires-after_bounds : goal.note-requires-after_bounds
-note-requires-after_bounds g c =
-    let numbers = g.T.Key.Numbers.numbers in
-    let s = c.args.self.now in
-    let rows = rows_of s in
-    let k = numbers (arc_value c.args.key) in
-    let h = at_within (keys_of rows) c.in-Ok.place _ c.in-Ok.ensures.found in
-    let m = length-map rows (λ (x : Row _). x.key) in
-    let l = rows_length (λ a. numbers (arc_value a)) slots_of s.keys.items s.rows.items s.long in
-    let ok = s.rows.ok.0 in
-    omega arith
 
 pub returns-in-Ok-clause-met : goal.returns-in-Ok-clause-met
 returns-in-Ok-clause-met g c =
