@@ -3,3 +3,4 @@ pub mod Each
 pub mod Others
 pub mod Notes
 pub mod Steals
+pub mod Sent
