@@ -7,3 +7,4 @@ pub mod Graphed
 pub mod Leads
 pub mod Team
 pub mod Ends
+pub mod Crossed
