@@ -1,0 +1,10 @@
+pub mod Appended
+pub mod Apart
+pub mod ShardMore
+pub mod Stored
+pub mod Ranked
+pub mod Graphed
+pub mod Leads
+pub mod Team
+pub mod Ends
+pub mod Crossed

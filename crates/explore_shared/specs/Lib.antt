@@ -1,0 +1,4 @@
+pub mod Gathered
+pub mod Records
+pub mod Ranks
+pub mod Workers
