@@ -4,8 +4,8 @@ use super::{TORUS_COUNTS, run, sound};
 use std::alloc::{AllocError, Global};
 use std::test::Fail;
 
-/// The square file with a front, and so many of this line behind its polygon and of that one before its end.
-fn repeated(alloc: Global, bases: u32, base: &str) -> Result<String, AllocError> {
+/// The square file over the field of √998, with a base line so many times.
+fn with_bases(alloc: Global, bases: u32, base: &str) -> Result<String, AllocError> {
     let mut text = String::from_str(alloc, "flat 1\nfield 998\n")?;
     for _ in 0..bases {
         text.push_str(base)?;
@@ -63,7 +63,8 @@ fn lone_squares(alloc: Global, n: u32) -> Result<String, AllocError> {
     Ok(text)
 }
 
-/// A text of 45 bytes and 13 more for each of its glues, of which 80,656 make it 1,048,576 bytes long.
+/// The torus of a rectangle with one glue line again and again. Where its field number has two digits it has 48 bytes and 13 more for
+/// each of these lines, of which 80,656 make it 1,048,576 bytes long.
 fn glued_again(alloc: Global, field: &str, glues: u32) -> Result<String, AllocError> {
     let mut text = format!(in alloc; "flat 1\nfield {field}\npolygon 10,0 0,1 -10,0 0,-1\n")?;
     for _ in 0..glues {
@@ -78,15 +79,19 @@ fn takes_what_is_at_a_limit_and_no_more(rt: HostRuntime) -> Result<(), Fail> {
     let alloc = rt.alloc();
     let counts = row_counts(alloc)?;
     let rows: [(String, u8, &[u8]); 10] = [
-        (repeated(alloc, 8, "base 0 1\n")?, 0, TORUS_COUNTS),
+        (with_bases(alloc, 8, "base 0 1\n")?, 0, TORUS_COUNTS),
         (
-            repeated(alloc, 9, "base 0 1\n")?,
+            with_bases(alloc, 9, "base 0 1\n")?,
             3,
             b"fault file 10 11 ManyBases\n",
         ),
-        (repeated(alloc, 1, "base 0 1000000000\n")?, 0, TORUS_COUNTS),
         (
-            repeated(alloc, 1, "base -999999999/1000000000 1\n")?,
+            with_bases(alloc, 1, "base 0 1000000000\n")?,
+            0,
+            TORUS_COUNTS,
+        ),
+        (
+            with_bases(alloc, 1, "base -999999999/1000000000 1\n")?,
             0,
             TORUS_COUNTS,
         ),
