@@ -58,23 +58,23 @@ fn place_of(tri: &Tri, firsts: &[u32], k: u32) -> Option<u32>
     None
 }
 
-/// Looks at half-edge k: where no half-edge that is kept has its vector, it is kept itself, unless there are many.
+/// Looks at half-edge k, unless many are kept: where none that is kept has its vector, it is kept itself.
 fn look(tri: &Tri, firsts: &mut Vec<u32>, places: &mut Vec<u32>, k: u32) -> Result<(), AllocError>
     requires kept { AreKept tri.now.halves firsts.old.items places.old.items k }
     requires half { k < length tri.now.halves }
     ensures { OnOk result (AreKept tri.now.halves firsts.new.items places.new.items (k + 1)) }
 {
+    let size = firsts.len() as u32;
+    if size == MANY {
+        places.push(MANY)?;
+        return Ok(());
+    }
     if let Some(place) = place_of(tri, firsts.as_slice(), k) {
         places.push(place)?;
         return Ok(());
     }
-    let size = firsts.len() as u32;
-    if size < MANY {
-        places.push(size)?;
-        firsts.push(k)?;
-        return Ok(());
-    }
-    places.push(MANY)?;
+    places.push(size)?;
+    firsts.push(k)?;
     Ok(())
 }
 
