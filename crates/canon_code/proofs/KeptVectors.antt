@@ -1,5 +1,5 @@
 -- Half-edges whose vectors differ, and the numbers of these vectors.
-use Rattle.std.proofs.Common.{◌≡◌, ℕ, ◌+◌, ◌*◌, ◌<◌, ◌≤◌, List, [], ◌∷◌, ◌++◌, length, sym, ap, ◌∙◌, refl, subst, inl, inr, arith}
+use Rattle.std.proofs.Common.{◌≡◌, ℕ, ◌+◌, ◌*◌, ◌<◌, List, [], ◌∷◌, ◌++◌, length, sym, ap, ◌∙◌, refl, subst, inl, inr, arith}
 use mathlib.Core.Path.{ap₂}
 use Rattle.std.proofs.lemmas.Bool.{cases_eq}
 use Rattle.std.proofs.lemmas.List.{get_or_append_left, get_or_push, length_push}
@@ -17,7 +17,7 @@ use Rattle.canon_code.specs.declared.whole.Scaled.{Scaled}
 use Rattle.canon_code.specs.Numbered.{entry}
 use Rattle.canon_code.specs.Coordinates.{no_quad, pair_at}
 use Rattle.canon_code.specs.WholeFrames.{IsWhole}
-use Rattle.canon_code.specs.Distinct.{AreInside, AreKept, AreDistinct, ArePairs, AreListed}
+use Rattle.canon_code.specs.Distinct.{AreKept, AreDistinct, ArePairs, AreListed}
 use Rattle.canon_code.proofs.Coordinated.{vec_read}
 
 pub kept_none : (halves : List Half) → AreKept halves [] [] 0
