@@ -16,14 +16,12 @@ ghost use Rattle.canon_code.specs.Small.{IsSmallFrame};
 ghost use Rattle.canon_code.specs.Distinct.{AreInside, AreDistinct, ArePairs, AreListed};
 ghost use Rattle.canon_code.specs.WholeFrames.{IsFrameOf, IsDivisorOf, IsScaledBy, IsWhole, IsNotWhole, IsWholeAt, IsNotWholeAt, IsWholeRow, HasNoWhole, IsTold};
 
-use super::coordinates::{
-    Coordinates, Frame, frame_of, numbers_of, push_pair, whole_number, whole_pair,
-};
+use super::coordinates::{Coordinates, Frame, frame_of, push_pair, whole_number, whole_pair};
 use super::distinct::{Distinct, listed_pair};
 use super::numbering::{Numbering, number_from};
 use super::same_rows::{same_row, twin_at};
 use super::serial::{Tried, row_in, scale_number};
-use super::small::{SmallFrame, small_numbers, small_of, whole_both};
+use super::small::{SmallFrame, quick_numbers, small_numbers, small_of, whole_both};
 use plane::Vec2;
 use quad_field::{Field, Quad, TooWide, content};
 use std::alloc::AllocError;
@@ -134,12 +132,13 @@ fn divisor_of(f: &Field, tri: &Tri, h: u32, frame: &Frame, scale: i128) -> i128
 {
     let _number = f.number();
     let count = 3 * tri.triangles();
+    let small = small_of(f, frame, 1);
     let mut divisor = frame.norm;
     for k in 0..count {
         if quotient(frame.norm, divisor) >= scale {
             return divisor;
         }
-        let Ok((x, y)) = numbers_of(f, frame, &tri.half(k).vec) else {
+        let Ok((x, y)) = quick_numbers(f, frame, small, &tri.half(k).vec) else {
             return divisor;
         };
         divisor = common(divisor, x, y);
