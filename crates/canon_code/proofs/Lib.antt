@@ -28,3 +28,5 @@ pub mod SmallFrames
 pub mod Merely
 pub mod Carriers
 pub mod CallerLemmas
+pub mod KeptVectors
+pub mod RowsSame

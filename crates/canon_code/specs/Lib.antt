@@ -15,3 +15,4 @@ pub mod Listing
 pub mod Tries
 pub mod WholeFrames
 pub mod Small
+pub mod Distinct

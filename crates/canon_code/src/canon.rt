@@ -8,10 +8,12 @@ ghost use Rattle.canon_code.specs.Least.{IsBestTo};
 ghost use Rattle.canon_code.specs.Canonical.{canonical, frame, ThirdVectorsFit, IsMade, number_at};
 ghost use Rattle.canon_code.specs.Tries.{IsTried, tried_serial};
 ghost use Rattle.canon_code.specs.FrameWidth.{FrameFits, HasWideFrame};
+ghost use Rattle.canon_code.specs.Distinct.{AreDistinct};
 ghost use Rattle.std.specs.declared.cmp.Ordering.TheVariants.{Less, Equal, Greater};
 ghost use Rattle.canon_code.specs.declared.fault.CanonFault.TheVariants.{Wide};
 
 use super::coordinates::Coordinates;
+use super::distinct::{Distinct, distinct_of};
 use super::numbering::Numbering;
 use super::serial::{Tried, order_of, scale_number, serial_of, tried_at};
 use super::whole::{Told, told_of};
@@ -112,8 +114,16 @@ fn tried_whole(
 }
 
 /// The better of the best and start h, which is tried in the lists of an earlier start.
-fn next(f: &Field, tri: &Tri, h: u32, old: Tried, best: Best) -> Result<(Tried, Best), CanonFault>
+fn next(
+    f: &Field,
+    tri: &Tri,
+    distinct: &Distinct,
+    h: u32,
+    old: Tried,
+    best: Best,
+) -> Result<(Tried, Best), CanonFault>
     requires field { f.now ≡ tri.now.field }
+    requires distinct { AreDistinct tri.now.halves distinct.now.firsts.items distinct.now.places.items }
     requires half { h < length tri.now.halves }
     requires best { IsBestTo f.now tri.now.halves h best.serial.items best.starts.items }
     ensures best { IfOk result (λ r. IsBestTo f.now tri.now.halves (h + 1) r.1.serial.items r.1.starts.items) }
@@ -121,19 +131,14 @@ fn next(f: &Field, tri: &Tri, h: u32, old: Tried, best: Best) -> Result<(Tried, 
 {
     let _number = f.number();
     let _count = tri.triangles();
-    let coordinates = old.coordinates;
-    let (numbering, answer) = told_of(f, tri, h, old.numbering, best.serial.as_slice())?;
-    let old = Tried {
-        numbering,
-        coordinates,
-    };
+    let (tried, answer) = told_of(f, tri, distinct, h, old, best.serial.as_slice())?;
     match answer {
-        Told::After => Ok((old, best)),
+        Told::After => Ok((tried, best)),
         Told::Same => {
             let best = with_start(best, h)?;
-            Ok((old, best))
+            Ok((tried, best))
         }
-        Told::Open => tried_whole(f, tri, h, old, best),
+        Told::Open => tried_whole(f, tri, h, tried, best),
     }
 }
 
@@ -147,6 +152,7 @@ pub fn best_of(alloc: Global, f: &Field, tri: &Tri) -> Result<Best, CanonFault>
 {
     let _number = f.number();
     let count = 3 * tri.triangles();
+    let distinct = distinct_of(alloc, tri)?;
     let (empty, serial) = room(alloc, count)?;
     let mut tried = match tried_at(f, tri, 0, empty) {
         Ok(tried) => tried,
@@ -155,7 +161,7 @@ pub fn best_of(alloc: Global, f: &Field, tri: &Tri) -> Result<Best, CanonFault>
     let starts = Vec::with_capacity(alloc, count as usize)?;
     let mut best = only(f, tri, &tried, 0, Best { serial, starts })?;
     for h in 1..count {
-        (tried, best) = match next(f, tri, h, tried, best) {
+        (tried, best) = match next(f, tri, &distinct, h, tried, best) {
             Ok(both) => both,
             Err(fault) => return Err(fault),
         };

@@ -5,11 +5,13 @@
 mod canon;
 mod code;
 mod coordinates;
+mod distinct;
 mod fault;
 pub mod laws;
 mod number_list;
 mod numbering;
 mod reader;
+mod same_rows;
 mod serial;
 mod small;
 mod text;

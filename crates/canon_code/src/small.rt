@@ -1,15 +1,15 @@
 //! The short way: the numbers of a vector in a frame by arithmetic of 64 bits, where all of it fits.
 
-ghost use Rattle.std.specs.Prelude.{◌≡◌, ℕ, ℤ, pos, ◌<ℤ◌, ◌*ℤ◌, ◌⊎◌, IfSome, IfNone};
+ghost use Rattle.std.specs.Prelude.{◌≡◌, ℕ, ℤ, pos, ◌<ℤ◌, ◌*ℤ◌, ◌⊎◌, IfSome, IfNone, IfOk, IsOk};
 ghost use Rattle.quad_field.specs.Quads.{quad_ops, product as product_in, scaled};
-ghost use Rattle.plane.specs.Vectors.{vector, det};
+ghost use Rattle.plane.specs.Vectors.{vector, vector_term, det};
 ghost use Rattle.canon_code.specs.Small.{quad_of, vector_of, IsSmallFrame};
-ghost use Rattle.quad_field.specs.Width.{PartsFit};
+ghost use Rattle.quad_field.specs.Width.{PartsFit, StepsFit, product as product_term, number, term_ops};
 ghost use Rattle.canon_code.specs.WholeFrames.{IsNoMultiple, IsNoWholeMultiple};
 
-use super::coordinates::{Frame, passed};
+use super::coordinates::{Frame, numbers_of, passed};
 use plane::Vec2;
-use quad_field::{Field, Quad};
+use quad_field::{Field, Quad, TooWide};
 
 /// A K-integer with parts of 64 bits.
 #[derive(Clone, Copy)]
@@ -192,5 +192,28 @@ pub fn whole_both(s: Quad64, t: Quad64, g: i64) -> Option<(Quad, Quad)>
             None => None,
         },
         None => None,
+    }
+}
+
+/// The two numbers of a vector in a frame, by arithmetic of 64 bits where all of it fits.
+#[inline]
+pub fn quick_numbers(
+    f: &Field,
+    frame: &Frame,
+    small: Option<SmallFrame>,
+    v: &Vec2,
+) -> Result<(Quad, Quad), TooWide>
+    requires small { IfSome small (IsSmallFrame f.now frame.now (pos 1)) }
+    ensures first { IfOk result (λ x. x.0 ≡ (quad_ops f.now).mul (det (quad_ops f.now) (vector v.now) (vector frame.now.g)) frame.now.conjugate) }
+    ensures second { IfOk result (λ x. x.1 ≡ (quad_ops f.now).mul (det (quad_ops f.now) (vector frame.now.e) (vector v.now)) frame.now.conjugate) }
+    ensures fits { StepsFit f.now (product_term (det term_ops (vector_term v.now) (vector_term frame.now.g)) (number frame.now.conjugate))
+        × StepsFit f.now (product_term (det term_ops (vector_term frame.now.e) (vector_term v.now)) (number frame.now.conjugate)) → IsOk result }
+{
+    match small {
+        Some(small) => match small_numbers(f.number(), &small, v) {
+            Some((s, t)) => Ok((wide(s), wide(t))),
+            None => numbers_of(f, frame, v),
+        },
+        None => numbers_of(f, frame, v),
     }
 }

@@ -72,7 +72,8 @@ fn third_vector(u: &Vec2, v: &Vec2) -> Option<Vec2>
 }
 
 /// The vector whose four numbers begin at place i.
-fn vector_at(numbers: &[i128], i: usize) -> Vec2
+#[inline]
+pub(crate) fn vector_at(numbers: &[i128], i: usize) -> Vec2
     requires { i + 3 < length numbers.now }
     ensures { vector result ≡ vector_from numbers.now i }
 {

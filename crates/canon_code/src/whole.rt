@@ -7,17 +7,21 @@ ghost use Rattle.quad_field.specs.Width.{FitsI128, PartsFit};
 ghost use Rattle.quad_field.specs.Content.{DividesParts};
 ghost use Rattle.plane.specs.Vectors.{vector};
 ghost use Rattle.tri_core.specs.declared.half.Half.{Half};
+ghost use Rattle.tri_core.specs.HalfEdges.{vector_at};
 ghost use Rattle.tri_core.specs.Triangulation.{IsTriangulation};
 ghost use Rattle.canon_code.specs.Canonical.{number_at};
 ghost use Rattle.canon_code.specs.Numbered.{IsNumberedBy};
 ghost use Rattle.canon_code.specs.Listed.{twin_by};
 ghost use Rattle.canon_code.specs.Small.{IsSmallFrame};
+ghost use Rattle.canon_code.specs.Distinct.{AreInside, AreDistinct, ArePairs, AreListed};
 ghost use Rattle.canon_code.specs.WholeFrames.{IsFrameOf, IsDivisorOf, IsScaledBy, IsWhole, IsNotWhole, IsWholeAt, IsNotWholeAt, IsWholeRow, HasNoWhole, IsTold};
 
-use super::coordinates::{Frame, frame_of, numbers_of, whole_number, whole_pair};
+use super::coordinates::{Coordinates, Frame, frame_of, push_pair, whole_number, whole_pair};
+use super::distinct::{Distinct, listed_pair};
 use super::numbering::{Numbering, number_from};
-use super::serial::{row_in, scale_number, twin_of};
-use super::small::{SmallFrame, small_numbers, small_of, whole_both};
+use super::same_rows::{same_row, twin_at};
+use super::serial::{Tried, row_in, scale_number};
+use super::small::{SmallFrame, quick_numbers, small_numbers, small_of, whole_both};
 use plane::Vec2;
 use quad_field::{Field, Quad, TooWide, content};
 use std::alloc::AllocError;
@@ -128,12 +132,13 @@ fn divisor_of(f: &Field, tri: &Tri, h: u32, frame: &Frame, scale: i128) -> i128
 {
     let _number = f.number();
     let count = 3 * tri.triangles();
+    let small = small_of(f, frame, 1);
     let mut divisor = frame.norm;
     for k in 0..count {
         if quotient(frame.norm, divisor) >= scale {
             return divisor;
         }
-        let Ok((x, y)) = numbers_of(f, frame, &tri.half(k).vec) else {
+        let Ok((x, y)) = quick_numbers(f, frame, small, &tri.half(k).vec) else {
             return divisor;
         };
         divisor = common(divisor, x, y);
@@ -158,39 +163,76 @@ fn pair_over(f: &Field, start: &Scaled, v: &Vec2) -> Result<Option<(Quad, Quad)>
     }
 }
 
+/// The numbers over the best scale of the vectors of these half-edges, up to one that has none, in an earlier list.
+fn pairs_of(
+    f: &Field,
+    tri: &Tri,
+    start: &Scaled,
+    firsts: &[u32],
+    old: Vec<Quad>,
+) -> Result<Vec<Quad>, AllocError>
+    requires positive { pos 0 <ℤ start.now.divisor }
+    requires small { IfSome start.now.small (IsSmallFrame f.now start.now.frame start.now.divisor) }
+    requires inside { AreInside tri.now.halves firsts.now }
+    ensures { IfOk result (λ list. ArePairs f.now tri.now.halves start.now firsts.now list.items) }
+{
+    let mut list = old;
+    list.clear();
+    for i in 0..firsts.len() {
+        let first = firsts[i];
+        match pair_over(f, start, &tri.half(first).vec) {
+            Ok(Some((x, y))) => push_pair(&mut list, (x, y))?,
+            Ok(None) => return Ok(list),
+            Err(TooWide) => return Ok(list),
+        }
+    }
+    Ok(list)
+}
+
+/// The coordinates of a half-edge over the best scale, none where they aren't whole: those that are listed, where they are.
+#[inline]
+fn pair_of(
+    f: &Field,
+    tri: &Tri,
+    start: &Scaled,
+    places: &[u32],
+    list: &[Quad],
+    half: u32,
+) -> Result<Option<(Quad, Quad)>, TooWide>
+    requires positive { pos 0 <ℤ start.now.divisor }
+    requires small { IfSome start.now.small (IsSmallFrame f.now start.now.frame start.now.divisor) }
+    requires listed { AreListed f.now tri.now.halves start.now places.now list.now }
+    requires half { half < length tri.now.halves }
+    ensures whole { IfOk result (λ o. IfSome o (λ w. IsWhole f.now start.now.frame start.now.divisor (vector_at tri.now.halves half) (w.0, w.1))) }
+    ensures none { IfOk result (λ o. IfNone o (IsNotWhole f.now start.now.frame start.now.divisor (vector_at tri.now.halves half))) }
+    ensures fits { IfOk result (λ o. IfSome o (λ w. PartsFit w.0 × PartsFit w.1)) }
+{
+    match listed_pair(places, list, half) {
+        Some((x, y)) => Ok(Some((x, y))),
+        None => pair_over(f, start, &tri.half(half).vec),
+    }
+}
+
 /// The coordinates of the half-edge of new number k over the best scale, none where they aren't whole.
 fn whole_at(
     f: &Field,
     tri: &Tri,
     start: &Scaled,
+    places: &[u32],
+    list: &[Quad],
     numbering: &Numbering,
     k: u32,
 ) -> Result<Option<(Quad, Quad)>, TooWide>
     requires positive { pos 0 <ℤ start.now.divisor }
     requires small { IfSome start.now.small (IsSmallFrame f.now start.now.frame start.now.divisor) }
+    requires listed { AreListed f.now tri.now.halves start.now places.now list.now }
     requires numbering { (h : ℕ) × IsNumberedBy tri.now.halves h numbering.now.places.items numbering.now.numbers.items }
     requires half { k < length tri.now.halves }
     ensures whole { IfOk result (λ o. IfSome o (λ w. IsWholeAt f.now tri.now.halves start.now numbering.now.places.items k (w.0, w.1))) }
     ensures none { IfOk result (λ o. IfNone o (IsNotWholeAt f.now tri.now.halves start.now numbering.now.places.items k)) }
     ensures fits { IfOk result (λ o. IfSome o (λ w. PartsFit w.0 × PartsFit w.1)) }
 {
-    let v = tri.half(numbering.places[k as usize]).vec;
-    pair_over(f, start, &v)
-}
-
-/// The new number of the twin of the half-edge of new number k.
-fn twin_at(tri: &Tri, numbering: &Numbering, k: u32) -> i128
-    requires valid { IsTriangulation tri.now.field tri.now.halves }
-    requires numbering { (h : ℕ) × IsNumberedBy tri.now.halves h numbering.now.places.items numbering.now.numbers.items }
-    requires half { k < length tri.now.halves }
-    ensures twin { result ≡ pos (twin_by tri.now.halves numbering.now.places.items numbering.now.numbers.items k) }
-    ensures fits { FitsI128 result }
-{
-    twin_of(
-        tri,
-        numbering.numbers.as_slice(),
-        numbering.places[k as usize],
-    )
+    pair_of(f, tri, start, places, list, numbering.places[k as usize])
 }
 
 /// The coordinates of the first two half-edges of triangle t, of the new numbers, over the best scale, none where they aren't whole.
@@ -198,11 +240,14 @@ fn both_at(
     f: &Field,
     tri: &Tri,
     start: &Scaled,
+    places: &[u32],
+    list: &[Quad],
     numbering: &Numbering,
     t: u32,
 ) -> Result<Option<(Quad, Quad, Quad, Quad)>, TooWide>
     requires positive { pos 0 <ℤ start.now.divisor }
     requires small { IfSome start.now.small (IsSmallFrame f.now start.now.frame start.now.divisor) }
+    requires listed { AreListed f.now tri.now.halves start.now places.now list.now }
     requires numbering { (h : ℕ) × IsNumberedBy tri.now.halves h numbering.now.places.items numbering.now.numbers.items }
     requires triangle { 3 * t + 2 < length tri.now.halves }
     ensures first { IfOk result (λ o. IfSome o (λ w. IsWholeAt f.now tri.now.halves start.now numbering.now.places.items (3 * t) (w.0, w.1))) }
@@ -211,8 +256,8 @@ fn both_at(
     ensures fits { IfOk result (λ o. IfSome o (λ w. PartsFit w.0 × PartsFit w.1 × PartsFit w.2 × PartsFit w.3)) }
 {
     let _count = tri.triangles();
-    match whole_at(f, tri, start, numbering, 3 * t)? {
-        Some((x, y)) => match whole_at(f, tri, start, numbering, 3 * t + 1)? {
+    match whole_at(f, tri, start, places, list, numbering, 3 * t)? {
+        Some((x, y)) => match whole_at(f, tri, start, places, list, numbering, 3 * t + 1)? {
             Some((z, w)) => Ok(Some((x, y, z, w))),
             None => Ok(None),
         },
@@ -225,18 +270,21 @@ fn whole_row(
     f: &Field,
     tri: &Tri,
     start: &Scaled,
+    places: &[u32],
+    list: &[Quad],
     numbering: &Numbering,
     t: u32,
 ) -> Result<Option<[i128; 11]>, TooWide>
     requires valid { IsTriangulation tri.now.field tri.now.halves }
     requires positive { pos 0 <ℤ start.now.divisor }
     requires small { IfSome start.now.small (IsSmallFrame f.now start.now.frame start.now.divisor) }
+    requires listed { AreListed f.now tri.now.halves start.now places.now list.now }
     requires numbering { (h : ℕ) × IsNumberedBy tri.now.halves h numbering.now.places.items numbering.now.numbers.items }
     requires triangle { 3 * t + 2 < length tri.now.halves }
     ensures whole { IfOk result (λ o. IfSome o (IsWholeRow f.now tri.now.halves start.now numbering.now.places.items numbering.now.numbers.items t)) }
     ensures none { IfOk result (λ o. IfNone o (HasNoWhole f.now tri.now.halves start.now numbering.now.places.items)) }
 {
-    match both_at(f, tri, start, numbering, t)? {
+    match both_at(f, tri, start, places, list, numbering, t)? {
         Some((x, y, z, w)) => {
             let one = twin_at(tri, numbering, 3 * t);
             let two = twin_at(tri, numbering, 3 * t + 1);
@@ -248,9 +296,18 @@ fn whole_row(
 }
 
 /// Whether a half-edge, from new number `from` on, has coordinates that aren't whole over the best scale. Where that isn't told the answer is no.
-fn is_broken(f: &Field, tri: &Tri, start: &Scaled, numbering: &Numbering, from: u32) -> bool
+fn is_broken(
+    f: &Field,
+    tri: &Tri,
+    start: &Scaled,
+    places: &[u32],
+    list: &[Quad],
+    numbering: &Numbering,
+    from: u32,
+) -> bool
     requires positive { pos 0 <ℤ start.now.divisor }
     requires small { IfSome start.now.small (IsSmallFrame f.now start.now.frame start.now.divisor) }
+    requires listed { AreListed f.now tri.now.halves start.now places.now list.now }
     requires numbering { (h : ℕ) × IsNumberedBy tri.now.halves h numbering.now.places.items numbering.now.numbers.items }
     ensures { IsTrue result → HasNoWhole f.now tri.now.halves start.now numbering.now.places.items }
 {
@@ -259,7 +316,7 @@ fn is_broken(f: &Field, tri: &Tri, start: &Scaled, numbering: &Numbering, from: 
     }
     let count = 3 * tri.triangles();
     for k in from..count {
-        match whole_at(f, tri, start, numbering, k) {
+        match whole_at(f, tri, start, places, list, numbering, k) {
             Ok(Some(_whole)) => {}
             Ok(None) => return true,
             Err(TooWide) => return false,
@@ -269,10 +326,19 @@ fn is_broken(f: &Field, tri: &Tri, start: &Scaled, numbering: &Numbering, from: 
 }
 
 /// How a start compares with the best, told by the first triangle that differs.
-fn compared(best: &[i128], f: &Field, tri: &Tri, start: &Scaled, numbering: &Numbering) -> Told
+fn compared(
+    best: &[i128],
+    f: &Field,
+    tri: &Tri,
+    start: &Scaled,
+    places: &[u32],
+    list: &[Quad],
+    numbering: &Numbering,
+) -> Told
     requires field { f.now ≡ tri.now.field }
     requires start { IsScaledBy f.now tri.now.halves (number_at best.now 1) start.now }
     requires small { IfSome start.now.small (IsSmallFrame f.now start.now.frame start.now.divisor) }
+    requires listed { AreListed f.now tri.now.halves start.now places.now list.now }
     requires numbering { IsNumberedBy tri.now.halves start.now.h numbering.now.places.items numbering.now.numbers.items }
     requires long { length best.now ≡ 2 + 11 * (length tri.now.halves / 3) }
     requires first { number_at best.now 0 ≡ pos (length tri.now.halves / 3) }
@@ -281,10 +347,14 @@ fn compared(best: &[i128], f: &Field, tri: &Tri, start: &Scaled, numbering: &Num
     let _number = f.number();
     let count = tri.triangles();
     for t in 0..count {
-        match whole_row(f, tri, start, numbering, t) {
-            Ok(Some(row)) => match row.as_slice().cmp(row_in(best, t)) {
+        let own = row_in(best, t);
+        if same_row(tri, places, list, numbering, own, t) {
+            continue;
+        }
+        match whole_row(f, tri, start, places, list, numbering, t) {
+            Ok(Some(row)) => match row.as_slice().cmp(own) {
                 Ordering::Less => {
-                    if is_broken(f, tri, start, numbering, 3 * t + 3) {
+                    if is_broken(f, tri, start, places, list, numbering, 3 * t + 3) {
                         return Told::After;
                     }
                     return Told::Open;
@@ -299,15 +369,50 @@ fn compared(best: &[i128], f: &Field, tri: &Tri, start: &Scaled, numbering: &Num
     Told::Same
 }
 
-/// What is told of start h, whose numbering is made in the lists of an earlier one where its scale may be the best one.
+/// What is told of a start whose scale may be the best one, in the lists of an earlier one.
+fn told_at(
+    f: &Field,
+    tri: &Tri,
+    distinct: &Distinct,
+    start: &Scaled,
+    old: Tried,
+    best: &[i128],
+) -> Result<(Tried, Told), AllocError>
+    requires field { f.now ≡ tri.now.field }
+    requires distinct { AreDistinct tri.now.halves distinct.now.firsts.items distinct.now.places.items }
+    requires start { IsScaledBy f.now tri.now.halves (number_at best.now 1) start.now }
+    requires small { IfSome start.now.small (IsSmallFrame f.now start.now.frame start.now.divisor) }
+    requires long { length best.now ≡ 2 + 11 * (length tri.now.halves / 3) }
+    requires first { number_at best.now 0 ≡ pos (length tri.now.halves / 3) }
+    ensures { IfOk result (λ r. IsTold f.now tri.now.halves start.now.h best.now r.1) }
+{
+    let numbering = number_from(tri, start.h, old.numbering)?;
+    let scale = old.coordinates.scale;
+    let firsts = distinct.firsts.as_slice();
+    let list = pairs_of(f, tri, start, firsts, old.coordinates.list)?;
+    let places = distinct.places.as_slice();
+    let told = compared(best, f, tri, start, places, list.as_slice(), &numbering);
+    let coordinates = Coordinates { scale, list };
+    Ok((
+        Tried {
+            numbering,
+            coordinates,
+        },
+        told,
+    ))
+}
+
+/// What is told of start h, in the lists of an earlier one where its scale may be the best one.
 pub fn told_of(
     f: &Field,
     tri: &Tri,
+    distinct: &Distinct,
     h: u32,
-    old: Numbering,
+    old: Tried,
     best: &[i128],
-) -> Result<(Numbering, Told), AllocError>
+) -> Result<(Tried, Told), AllocError>
     requires field { f.now ≡ tri.now.field }
+    requires distinct { AreDistinct tri.now.halves distinct.now.firsts.items distinct.now.places.items }
     requires half { h < length tri.now.halves }
     requires long { length best.now ≡ 2 + 11 * (length tri.now.halves / 3) }
     requires first { number_at best.now 0 ≡ pos (length tri.now.halves / 3) }
@@ -330,10 +435,6 @@ pub fn told_of(
     match quotient(frame.norm, divisor).cmp(&scale) {
         Ordering::Less => Ok((old, Told::Open)),
         Ordering::Greater => Ok((old, Told::After)),
-        Ordering::Equal => {
-            let numbering = number_from(tri, h, old)?;
-            let told = compared(best, f, tri, &start, &numbering);
-            Ok((numbering, told))
-        }
+        Ordering::Equal => told_at(f, tri, distinct, &start, old, best),
     }
 }

@@ -32,7 +32,7 @@ returns-in-After-clause-best c =
     let halves = c.args.tri.now.halves in
     let d : ℕ = c.args.f.now in
     let valid : IsTriangulation d halves = subst (λ n. IsTriangulation n halves) (sym c.requires.field) c.triangles-count.ensures.valid in
-    let told : (other : List ℤ) → IsSerial d halves c.args.h other → IsBefore c.as_slice.result.now other = subst (λ (a : Told). IsTold d halves c.args.h c.as_slice.result.now a) c.in-After.is c.in_ok-numbering.ensures in
+    let told : (other : List ℤ) → IsSerial d halves c.args.h other → IsBefore c.as_slice.result.now other = subst (λ (a : Told). IsTold d halves c.args.h c.as_slice.result.now a) c.in-After.is c.in_ok-tried.ensures in
     record {
       best = least_kept d c.number-number.ensures.valid halves valid c.args.h c.args.best.serial.items c.args.best.starts.items c.requires.best.best
           (λ other s. subst (λ (l : List ℤ). IsBefore l other) c.as_slice.ensures.value (told other s));
@@ -45,7 +45,7 @@ returns-in_ok-best-in-Same-clause-best c =
     let d : ℕ = c.args.f.now in
     let valid : IsTriangulation d halves = subst (λ n. IsTriangulation n halves) (sym c.requires.field) c.triangles-count.ensures.valid in
     let best : List ℤ = c.args.best.serial.items in
-    let own : IsSerial d halves c.args.h c.as_slice.result.now = subst (λ (a : Told). IsTold d halves c.args.h c.as_slice.result.now a) c.in-Same.is c.in_ok-numbering.ensures in
+    let own : IsSerial d halves c.args.h c.as_slice.result.now = subst (λ (a : Told). IsTold d halves c.args.h c.as_slice.result.now a) c.in-Same.is c.in_ok-tried.ensures in
     subst₂ (λ (s : List ℤ) (l : List ℕ). IsBestTo d halves (c.args.h + 1) s l) (sym c.in_ok-best-in-Same.ensures.serial) (sym c.in_ok-best-in-Same.ensures.starts)
     (record {
       best = least_same d c.number-number.ensures.valid halves valid c.args.h best best c.args.best.starts.items c.requires.half c.requires.best.best (subst (IsSerial d halves c.args.h) c.as_slice.ensures.value own) (tie best);

@@ -38,8 +38,8 @@ quotient-requires-clause-divides c =
     let g_fits : FitsSigned w128 g = search rules in
     subst₂ (λ (a b : ℤ). unsigned_abs a ∣ unsigned_abs b) (sym (to_z-of_z w128 g g_fits)) (sym (to_z-of_z w128 norm norm_fits)) c.divisor_of-divisor.ensures.divides
 
-pub compared-told-requires-clause-start : goal.compared-told-requires-clause-start
-compared-told-requires-clause-start c =
+pub told_at-requires-clause-start : goal.told_at-requires-clause-start
+told_at-requires-clause-start c =
     let norm : ℤ = c.in-Some.frame.norm in
     let g : ℤ = c.divisor_of-divisor.result in
     let q : ℤ = c.quotient.result in
