@@ -1,4 +1,4 @@
-use Rattle.std.proofs.Common.{◌≡◌, ◌∷◌, [], ◌∙◌, length, ap, sym, subst, arith}
+use Rattle.std.proofs.Common.{◌∷◌, [], ◌∙◌, length, ap, sym, subst, arith}
 use Rattle.std.specs.Prelude.{pos}
 use Rattle.walls_out.specs.declared.view.View.{View}
 use Rattle.terrain.specs.Places.{IsAt}
