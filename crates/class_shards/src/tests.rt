@@ -126,7 +126,7 @@ fn one_key<N: Naming>(rt: &impl Abort, alloc: Global, ring: &Ring, start: Start)
     let key = held(rt, alloc, 0, false);
     let (again, mut seat) = meet_at_last(rt, alloc, ring, &count, &mut shard, key, seat, false);
     assert_eq!(rt; (again.tickets.len(), again.count), (0, 1));
-    assert_eq!(rt; seat.look(&count), 3);
+    look_at(rt, &count, &mut seat, 3);
     let Met {
         receipt: _,
         mut tickets,
@@ -135,12 +135,72 @@ fn one_key<N: Naming>(rt: &impl Abort, alloc: Global, ring: &Ring, start: Start)
     let Some(ticket) = tickets.pop() else {
         panic!(rt; "no ticket")
     };
+    fill_back(rt, ring, &count, &mut shard, ticket);
+    look_at(rt, &count, &mut seat, 2);
+    let Some(ticket) = tickets.pop() else {
+        panic!(rt; "no second ticket")
+    };
+    fill_back(rt, ring, &count, &mut shard, ticket);
+    look_at(rt, &count, &mut seat, 1);
+    end(rt, &count, shard, seat);
+}
+
+/// The word, looked at by a seat that owes the root's entry.
+fn look_at(rt: &impl Abort, count: &Count, seat: &mut CountSeat, expected: u64)
+    requires count { count_of seat.old ≡ name_of count.now }
+    requires owes { (view_of seat.old).owed ≡ Root ∷ [] }
+    ensures count { count_of seat.new ≡ count_of seat.old }
+    ensures view { view_of seat.new ≡ view_of seat.old }
+{
+    let word = seat.look(count);
+    assert_eq!(rt; word, expected);
+}
+
+/// The ticket's wall of key 0 leads back to key 0.
+fn fill_back<N: Naming>(
+    rt: &impl Abort,
+    ring: &Ring,
+    count: &Count,
+    shard: &mut Shard<Ring, N>,
+    ticket: Ticket<Ring, N>,
+)
+    requires names { N.terrain ≡ pos 1 ∷ [] }
+    requires count { name_of count.now ≡ N.count }
+    requires ticket { ring_shard (pos (arc_value ticket.key) ∷ []) ≡ number_of shard.old }
+    requires logs { number_of shard.old ≡ 0 }
+    ensures same { number_of shard.new ≡ number_of shard.old }
+{
     let Some(target) = shard.look_up(ring, &0) else {
         panic!(rt; "not found")
     };
     let wall = ticket.wall;
-    shard.fill(&count, ticket, 0, target, wall);
-    assert_eq!(rt; seat.look(&count), 2);
+    shard.fill(count, ticket, 0, target, wall);
+}
+
+/// Once the root's entry is gone too nothing is owed, and the shard gives its key with both slots.
+fn end<N: Naming>(rt: &impl Abort, count: &Count, shard: Shard<Ring, N>, mut seat: CountSeat)
+    requires count { (name_of count.now ≡ N.count) × (count_of seat ≡ N.count) }
+    requires seat { (view_of seat).owed ≡ Root ∷ [] }
+{
+    seat.lower_root(count);
+    if seat.look(count) != 0 {
+        panic!(rt; "owed")
+    }
+    let rest = shard.finish(count, &mut seat);
+    assert_eq!(rt; (rest.keys.len(), rest.rows.len()), (1, 1));
+    for key in rest.keys.iter() {
+        assert_eq!(rt; **key, 0);
+    }
+    for row in rest.rows.iter() {
+        assert_eq!(rt; row.slots.len(), 2);
+        for (wall, slot) in row.slots.iter().enumerate() {
+            let Some(slot) = slot else {
+                panic!(rt; "an empty slot")
+            };
+            assert_eq!(rt; (slot.shard, slot.target.place()), (0, 0));
+            assert_eq!(rt; slot.link as usize, wall);
+        }
+    }
 }
 
 #[test]
