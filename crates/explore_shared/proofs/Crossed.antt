@@ -7,8 +7,6 @@ use denote.Struct.Tuple.{TupleAt, type_at}
 use mathlib.Core.List.{List, [], ◌∷◌}
 use mir.Syntax.{Lifetime, Sym}
 use base.Fml.{Lft}
-use Rattle.std.proofs.alloc.Global.TheSendSync as heap
-use Rattle.std.specs.contracts.alloc.Global as Global
 use Rattle.terrain.specs.declared.terrains.Terrain as terrains
 use Rattle.terrain.specs.declared.numbers.Numbers as numbers
 use Rattle.class_shards.specs.declared.naming.Naming as namings

@@ -1,5 +1,5 @@
 -- The records of one shard more.
-use Rattle.std.proofs.Common.{◌≡◌, ℕ, ◌+◌, ◌<◌, List, [], ◌∷◌, ◌++◌, length, map, Some, sym, ap, ◌∙◌, subst, arith, ⊎_elim}
+use Rattle.std.proofs.Common.{◌≡◌, ℕ, ◌+◌, ◌<◌, List, [], ◌∷◌, ◌++◌, length, sym, ap, ◌∙◌, subst, arith, ⊎_elim}
 use Rattle.std.specs.Prelude.{ℤ}
 use Rattle.std.specs.Coded.{Coded-set, coded_ℕ, coded_list, coded_ℤ, coded_option, le_prop}
 use Rattle.std.proofs.lemmas.List.{length-append, length-map, map-append}
@@ -8,7 +8,7 @@ use Rattle.terrain.specs.Places.{IsAt}
 use Rattle.terrain.specs.Causes.{MoreAreReached}
 use Rattle.terrain.specs.Reach.{IsReached, AreReachedOnce}
 use Rattle.terrain.proofs.CallerLemmas.{at_within, at_snoc, map_at}
-use Rattle.explore_core.specs.Books.{Slot, Row, keys_of}
+use Rattle.explore_core.specs.Books.{Row, keys_of}
 use Rattle.class_shards.specs.Agreement.{IsShard, AreFilled}
 use Rattle.explore_shared.specs.Gathered.{AreGathered}
 use Rattle.explore_shared.proofs.Appended.{left_at, right_at, at_append}

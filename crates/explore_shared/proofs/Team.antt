@@ -1,6 +1,5 @@
 -- Elements that all have a property, one by one.
-use Rattle.std.proofs.Common.{◌≡◌, ℕ, zero, suc, ◌+◌, List, [], ◌∷◌, ◌++◌, length, drop, take, sym, ap, subst, arith, ⊎_elim}
-use Rattle.std.specs.Prelude.{◌⊎◌}
+use Rattle.std.proofs.Common.{◌≡◌, ℕ, zero, suc, ◌+◌, List, [], ◌∷◌, ◌++◌, length, drop, take, sym, subst, arith, ⊎_elim}
 use Rattle.terrain.specs.Places.{IsAt}
 use Rattle.terrain.proofs.CallerLemmas.{at_snoc, snoc_left, snoc_end}
 

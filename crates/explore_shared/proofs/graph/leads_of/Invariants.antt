@@ -1,4 +1,4 @@
-use Rattle.std.proofs.Common.{◌≡◌, List, length, map, vec_len}
+use Rattle.std.proofs.Common.{◌≡◌, List, map}
 use Rattle.std.specs.Prelude.{ℤ, option_map}
 use Rattle.receipt_log.specs.Logs.{list_of}
 use Rattle.class_shards.specs.Stored.{slot_of}

@@ -1,5 +1,4 @@
-use Rattle.std.proofs.Common.{◌≡◌, ℕ, List, length, map, vec_len}
-use Rattle.std.specs.Prelude.{ℤ}
+use Rattle.std.proofs.Common.{◌≡◌, ℕ, length, map, vec_len}
 use Rattle.receipt_log.specs.Logs.{list_of}
 use Rattle.class_shards.specs.Stored.{slots_of}
 use Rattle.terrain.specs.Places.{IsAt}

@@ -1,4 +1,4 @@
-use Rattle.std.proofs.Common.{◌≡◌, ◌<◌, ℕ, length, vec_len, get_or, refl, subst, arith, rules}
+use Rattle.std.proofs.Common.{◌<◌, length, refl, subst, arith, rules}
 use Rattle.std.proofs.lemmas.Option.{get_or_from_slice_get, slice_get_read}
 use Rattle.terrain.proofs.CallerLemmas.{at_within}
 use Rattle.wall_steal.specs.Cells.{cell_of}
@@ -12,7 +12,7 @@ use Rattle.class_shards.specs.contracts.shards.Shards as Shards
 use Rattle.walls_out.specs.contracts.count.Count as Count
 use Rattle.wall_steal.specs.contracts.halt.Halt as Halt
 use denote.Exit.{yes}
-use denote.Param.Send.{arg_send, arg_sync, struct_sync, shr_sync, param_send, param_sync, sendable}
+use denote.Param.Send.{arg_send, param_send, sendable}
 use Rattle.walls_out.proofs.count.Count.TheSendSync as count
 use Rattle.wall_steal.proofs.Sent.{halt_sync}
 use Rattle.explore_shared.proofs.Crossed.{worker_send, shards_sync, lending_sync}

@@ -1,10 +1,7 @@
-use Rattle.std.proofs.Common.{◌≡◌, ◌≢◌, ◌<◌, ℕ, length, set, get_or, refl, sym, ap, ◌∙◌, subst, arith}
+use Rattle.std.proofs.Common.{◌≡◌, get_or, sym, ap, ◌∙◌, arith}
 use Rattle.std.proofs.lemmas.List.{length-set}
 use Rattle.std.proofs.lemmas.Option.{get_or_from_slice_get}
-use mathlib.Core.Logic.{dite}
-use native.Mathlib.Decide.{ℕ_discrete}
-use Rattle.terrain.specs.Places.{IsAt}
-use Rattle.terrain.proofs.CallerLemmas.{at_within, at_one, read, set_here, set_else}
+use Rattle.terrain.proofs.CallerLemmas.{at_within, read}
 use Rattle.explore_shared.specs.declared.gathered.Gathered.{Gathered}
 use Rattle.explore_shared.proofs.Ranked.{ranked_on}
 use Rattle.explore_shared.proofs.sorting.ranks_of.Goals as goal

@@ -1,4 +1,4 @@
-use Rattle.std.proofs.Common.{◌≡◌, ◌<◌, false, get_or, subst, arith, rules}
+use Rattle.std.proofs.Common.{◌≡◌, false, get_or, subst, arith, rules}
 use Rattle.std.specs.Ordering.{is_lt}
 use Rattle.std.specs.Arc.{arc_value}
 use Rattle.std.specs.declared.cmp.Ordering.{Ordering}
@@ -7,9 +7,6 @@ use Rattle.std.proofs.lemmas.List.Sorted.{ranks_by, sorted_far, answers_always}
 use Rattle.std.proofs.lemmas.Option.{get_or_from_slice_get}
 use Rattle.terrain.proofs.CallerLemmas.{at_within}
 use Rattle.explore_shared.specs.declared.gathered.Gathered.{Gathered}
-use Rattle.explore_shared.proofs.Ranked.{finds}
-use Rattle.explore_shared.proofs.Graphed.{graph_is}
-use Rattle.explore_shared.proofs.ShardMore.{gathered_more, gathered_of, more_reached}
 use Rattle.explore_shared.proofs.sorting.sort_records.Goals as goal
 
 not_less : (o : Ordering) → is_lt o ≡ false → o ≡ Less → ⊥
