@@ -13,7 +13,7 @@ use Rattle.class_shards.specs.declared.naming.Naming as namings
 use Rattle.class_shards.specs.contracts.shards.Shards as Shards
 use Rattle.class_shards.proofs.shards.Shards.TheSendSync as shards
 use Rattle.walls_out.proofs.count.CountSeat.TheSendSync as seat
-use Rattle.wall_steal.proofs.Sent.{hands_field_send}
+use Rattle.wall_steal.proofs.CallerLemmas.{hands_field_send}
 use Rattle.explore_shared.specs.contracts.run.Worker as Worker
 
 module _ (T N K L F W : RattleType) (G : terrains.Ghosts T.Denot K.Denot L.Denot F.Denot W.Denot) (A : numbers.Ghosts T.Denot) (B : numbers.Ghosts K.Denot) (M : namings.Ghosts N.Denot) where

@@ -3,4 +3,4 @@ pub mod Each
 pub mod Others
 pub mod Notes
 pub mod Steals
-pub mod Sent
+pub mod CallerLemmas

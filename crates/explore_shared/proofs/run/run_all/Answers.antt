@@ -14,7 +14,7 @@ use Rattle.wall_steal.specs.contracts.halt.Halt as Halt
 use denote.Exit.{yes}
 use denote.Param.Send.{arg_send, param_send, sendable}
 use Rattle.walls_out.proofs.count.Count.TheSendSync as count
-use Rattle.wall_steal.proofs.Sent.{halt_sync}
+use Rattle.wall_steal.proofs.CallerLemmas.{halt_sync}
 use Rattle.explore_shared.proofs.Crossed.{worker_send, shards_sync, lending_sync}
 use Rattle.explore_shared.specs.Workers.{EndsWell}
 use Rattle.explore_shared.proofs.Ends.{ok_by_two}

@@ -1,4 +1,4 @@
--- Which values of this crate may cross threads.
+-- What callers need: which values of this crate may cross threads.
 use denote.RattleType.{RattleType}
 use denote.Builtin as builtin
 use denote.Param.Send.{IsSend, IsSync, struct_send, struct_sync, recorded_send, recorded_sync, sendable}
