@@ -80,7 +80,8 @@ fn same_vectors(places: &[u32], list: &[Quad], first: u32, second: u32, row: &[i
 fn same_twins(tri: &Tri, numbering: &Numbering, row: &[i128], t: u32) -> bool
     requires valid { IsTriangulation tri.now.field tri.now.halves }
     requires numbering { (looked : ℕ) × IsListSearch tri.now.halves numbering.now.places.items numbering.now.numbers.items looked }
-    requires triangle { 3 * t + 2 < length numbering.now.places.items }
+    requires triangle { 3 * t + 2 < length tri.now.halves }
+    requires reached { 3 * t + 2 < length numbering.now.places.items }
     requires long { length row.now ≡ 11 }
     ensures first { IsTrue result → number_at row.now 8 ≡ pos (twin_by tri.now.halves numbering.now.places.items numbering.now.numbers.items (3 * t)) }
     ensures second { IsTrue result → number_at row.now 9 ≡ pos (twin_by tri.now.halves numbering.now.places.items numbering.now.numbers.items (3 * t + 1)) }
@@ -106,7 +107,8 @@ pub fn same_row(
     requires valid { IsTriangulation tri.now.field tri.now.halves }
     requires places { length places.now ≡ length tri.now.halves }
     requires numbering { (looked : ℕ) × IsListSearch tri.now.halves numbering.now.places.items numbering.now.numbers.items looked }
-    requires triangle { 3 * t + 2 < length numbering.now.places.items }
+    requires triangle { 3 * t + 2 < length tri.now.halves }
+    requires reached { 3 * t + 2 < length numbering.now.places.items }
     requires long { length row.now ≡ 11 }
     ensures { IsTrue result → (d : ℕ) (start : Scaled) → AreListed d tri.now.halves start places.now list.now
         → IsWholeRow d tri.now.halves start (entry numbering.now.places.items) (entry numbering.now.numbers.items) t row.now }

@@ -249,7 +249,8 @@ fn both_at(
     requires small { IfSome start.now.small (IsSmallFrame f.now start.now.frame start.now.divisor) }
     requires listed { AreListed f.now tri.now.halves start.now places.now list.now }
     requires numbering { (looked : ℕ) × IsListSearch tri.now.halves numbering.now.places.items numbering.now.numbers.items looked }
-    requires triangle { 3 * t + 2 < length numbering.now.places.items }
+    requires triangle { 3 * t + 2 < length tri.now.halves }
+    requires reached { 3 * t + 2 < length numbering.now.places.items }
     ensures first { IfOk result (λ o. IfSome o (λ w. IsWholeAt f.now tri.now.halves start.now (entry numbering.now.places.items) (3 * t) (w.0, w.1))) }
     ensures second { IfOk result (λ o. IfSome o (λ w. IsWholeAt f.now tri.now.halves start.now (entry numbering.now.places.items) (3 * t + 1) (w.2, w.3))) }
     ensures none { IfOk result (λ o. IfNone o (HasNoWhole f.now tri.now.halves start.now)) }
@@ -280,7 +281,8 @@ fn whole_row(
     requires small { IfSome start.now.small (IsSmallFrame f.now start.now.frame start.now.divisor) }
     requires listed { AreListed f.now tri.now.halves start.now places.now list.now }
     requires numbering { (looked : ℕ) × IsListSearch tri.now.halves numbering.now.places.items numbering.now.numbers.items looked }
-    requires triangle { 3 * t + 2 < length numbering.now.places.items }
+    requires triangle { 3 * t + 2 < length tri.now.halves }
+    requires reached { 3 * t + 2 < length numbering.now.places.items }
     ensures whole { IfOk result (λ o. IfSome o (IsWholeRow f.now tri.now.halves start.now (entry numbering.now.places.items) (entry numbering.now.numbers.items) t)) }
     ensures none { IfOk result (λ o. IfNone o (HasNoWhole f.now tri.now.halves start.now)) }
 {
