@@ -178,8 +178,7 @@ module _ (d : ℕ) (field : IsFieldNumber d) (halves : List Half) (valid : IsTri
     row_in_serial places numbers t w numbers_are r =
         let a = one (3 * t) (omega arith) in
         let b = one (3 * t + 1) (omega arith) in
-        let c = one (3 * t + 2) (omega arith) in
-        (
+        let c = one (3 * t + 2) (omega arith) in (
           r.0,
           r.1,
           subst (λ (p : ℕ). IsWhole d start.frame start.divisor (vector_at halves p) r.0) a r.2,

@@ -385,15 +385,7 @@ fn told_at(
     let firsts = distinct.firsts.as_slice();
     let list = pairs_of(f, tri, start, firsts, old.coordinates.list)?;
     let places = distinct.places.as_slice();
-    let told = compared(
-        best,
-        f,
-        tri,
-        start,
-        places,
-        list.as_slice(),
-        &mut numbering,
-    )?;
+    let told = compared(best, f, tri, start, places, list.as_slice(), &mut numbering)?;
     let coordinates = Coordinates { scale, list };
     Ok((
         Tried {

@@ -1,4 +1,4 @@
-use Rattle.std.proofs.Common.{◌≡◌, ◌+◌, ◌*◌, ◌/◌, ◌<◌, ℕ, List, length, sym, ap, ◌∙◌, subst, arith}
+use Rattle.std.proofs.Common.{◌≡◌, ◌+◌, ◌*◌, ◌/◌, ◌<◌, ◌≤◌, ℕ, List, length, sym, ap, ◌∙◌, subst, arith}
 use mathlib.Core.Path.{ap₂}
 use Rattle.std.specs.Prelude.{ℤ, IfSome, IfNone}
 use Rattle.std.specs.Ordering.{int_cmp}
@@ -102,3 +102,21 @@ pub same_row-requires-clause-long : goal.same_row-requires-clause-long
 same_row-requires-clause-long c =
     let halves = c.args.tri.now.halves in
     ap length c.row_in-own.ensures ∙ eleven (length halves / 3) c.loop-t.t c.args.best.now c.requires.long (omega arith)
+
+pub same_row-requires-clause-numbering : goal.same_row-requires-clause-numbering
+same_row-requires-clause-numbering c = (3 * (c.loop-t.t + 1), (c.in_ok-look_around.ensures.search c.args.start.now.h c.loop-t.invariant.search).search)
+
+pub same_row-requires-clause-reached : goal.same_row-requires-clause-reached
+same_row-requires-clause-reached c =
+    let t : ℕ = c.loop-t.t in
+    let enough : 3 * (t + 1) ≤ length c.look_around.new.numbering.places.items = (c.in_ok-look_around.ensures.search c.args.start.now.h c.loop-t.invariant.search).search.search.enough in
+    omega (arith, enough)
+
+pub whole_row-requires-clause-numbering : goal.whole_row-requires-clause-numbering
+whole_row-requires-clause-numbering c = (3 * (c.loop-t.t + 1), (c.in_ok-look_around.ensures.search c.args.start.now.h c.loop-t.invariant.search).search)
+
+pub whole_row-requires-clause-reached : goal.whole_row-requires-clause-reached
+whole_row-requires-clause-reached c =
+    let t : ℕ = c.loop-t.t in
+    let enough : 3 * (t + 1) ≤ length c.look_around.new.numbering.places.items = (c.in_ok-look_around.ensures.search c.args.start.now.h c.loop-t.invariant.search).search.search.enough in
+    omega (arith, enough)
