@@ -11,7 +11,6 @@ ghost use Rattle.tri_core.specs.HalfEdges.{vector_at};
 ghost use Rattle.tri_core.specs.Triangulation.{IsTriangulation};
 ghost use Rattle.canon_code.specs.Canonical.{number_at};
 ghost use Rattle.canon_code.specs.Numbered.{entry, IsListSearch, IsUnderWay};
-ghost use Rattle.canon_code.specs.Listed.{twin_by};
 ghost use Rattle.canon_code.specs.Small.{IsSmallFrame};
 ghost use Rattle.canon_code.specs.Distinct.{AreInside, AreDistinct, ArePairs, AreListed};
 ghost use Rattle.canon_code.specs.WholeFrames.{IsFrameOf, IsDivisorOf, IsScaledBy, IsWhole, IsNotWhole, IsWholeAt, IsWholeRow, HasNoWhole, IsTold};
