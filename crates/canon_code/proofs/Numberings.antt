@@ -1,5 +1,5 @@
 -- Breadth-first numberings: carried by bijections, and only one from each start.
-use Rattle.std.proofs.Common.{◌≡◌, ℕ, zero, suc, ◌*◌, ◌%◌, ◌<◌, List, length, sym, ap, ◌∙◌, subst, inl, inr, arith}
+use Rattle.std.proofs.Common.{◌≡◌, ℕ, zero, suc, ◌*◌, ◌%◌, ◌<◌, ◌≤◌, List, length, sym, ap, ◌∙◌, subst, inl, inr, arith}
 use Rattle.std.proofs.lemmas.Bool.{cases_eq, cases_lt}
 use Rattle.tri_core.specs.declared.half.Half.{Half}
 use Rattle.tri_core.specs.HalfEdges.{twin_at, next_of}
@@ -67,62 +67,91 @@ last_three t k P before first second third below =
       ]
     ]
 
-module _ (halves : List Half) (h : ℕ) (place number place' number' : ℕ → ℕ) (valid : HasTwinsInside halves)
-    (one : IsNumbering halves h place number) (two : IsNumbering halves h place' number') where
-  abbrev Agree : ℕ → Type 0
-  Agree k = k < length halves → place k ≡ place' k
+-- the first n half-edges of a numbering breadth first from h
+pub record IsBeginning (halves : List Half) (h : ℕ) (place number : ℕ → ℕ) (n : ℕ) : Type 0 where
+  pub triples : n % 3 ≡ 0
+  pub start : 0 < n → place 0 ≡ h
+  pub next : (k : ℕ) → k < n → place (next_of k) ≡ next_of (place k)
+  pub inside : (k : ℕ) → k < n → place k < length halves
+  pub back : (k : ℕ) → k < n → number (place k) ≡ k
+  pub forth : (x : ℕ) → x < length halves → number x < n → place (number x) ≡ x
+  pub found : (t : ℕ) → 0 < t → 3 * t < n → (k : ℕ) × IsFoundFrom halves place number t k
 
+-- a numbering begins with its first n half-edges
+pub beginning_of : (halves : List Half) (h : ℕ) (place number : ℕ → ℕ) (n : ℕ) → IsNumbering halves h place number → n % 3 ≡ 0 → n ≤ length halves → IsBeginning halves h place number n
+beginning_of halves h place number n num triples few = record {
+  triples = triples;
+  start = λ some. num.start;
+  next = λ k low. num.next k (omega (arith, low, few));
+  inside = λ k low. num.each_once.forth_inside k (omega (arith, low, few));
+  back = λ k low. num.each_once.back_forth k (omega (arith, low, few));
+  forth = λ x inside low. num.each_once.forth_back x inside;
+  found = λ t positive low. num.found t positive (omega (arith, low, few));
+}
+
+module _ (halves : List Half) (h : ℕ) (place number place' number' : ℕ → ℕ) (n : ℕ) (valid : HasTwinsInside halves)
+    (one : IsBeginning halves h place number n) (two : IsBeginning halves h place' number' n) where
   -- where the places below 3t agree, triangle t is not found earlier by the second numbering
-  not_earlier : (t k k' : ℕ) → 3 * t < length halves → ((j : ℕ) → j < 3 * t → Agree j) → IsFoundFrom halves place number t k → IsFoundFrom halves place' number' t k' → k < k' → ⊥
+  not_earlier : (t k k' : ℕ) → 3 * t < n → ((j : ℕ) → j < 3 * t → j < n → place j ≡ place' j) → IsFoundFrom halves place number t k → IsFoundFrom halves place' number' t k' → k < k' → ⊥
   not_earlier t k k' inside same f g less =
-      let own : k < length halves = omega (arith, f.before) in
+      let own : k < n = omega (arith, f.before) in
       let i : ℕ = number' (twin_at halves (place' k)) in
       let low : i < 3 * t = g.first k less in
-      let into : twin_at halves (place' k) < length halves = valid.inside (place' k) (two.each_once.forth_inside k own) in
+      let into : twin_at halves (place' k) < length halves = valid.inside (place' k) (two.inside k own) in
       let e : place i ≡ place (3 * t) =
-      same i low (omega arith) ∙ two.each_once.forth_back (twin_at halves (place' k)) into ∙ ap (twin_at halves) (sym (same k f.before own)) ∙ f.twin in
-      let same_place : i ≡ 3 * t = sym (one.each_once.back_forth i (omega arith)) ∙ ap number e ∙ one.each_once.back_forth (3 * t) inside in
+      same i low (omega arith) ∙ two.forth (twin_at halves (place' k)) into (omega (arith, low, inside)) ∙ ap (twin_at halves) (sym (same k f.before own)) ∙ f.twin in
+      let same_place : i ≡ 3 * t = sym (one.back i (omega arith)) ∙ ap number e ∙ one.back (3 * t) inside in
       omega (arith, same_place, low)
 
--- a start has one numbering
-module _ (halves : List Half) (h : ℕ) (place number place' number' : ℕ → ℕ) (valid : HasTwinsInside halves)
-    (one : IsNumbering halves h place number) (two : IsNumbering halves h place' number') where
+-- a start has one numbering: two that have begun agree as far as both have come
+module _ (halves : List Half) (h : ℕ) (place number place' number' : ℕ → ℕ) (n : ℕ) (valid : HasTwinsInside halves)
+    (one : IsBeginning halves h place number n) (two : IsBeginning halves h place' number' n) where
   -- the first half-edge of triangle t has one place
-  first_agrees : (t : ℕ) → 3 * t < length halves → ((j : ℕ) → j < 3 * t → j < length halves → place j ≡ place' j) → place (3 * t) ≡ place' (3 * t)
-  first_agrees zero inside same = one.start ∙ sym two.start
+  first_agrees : (t : ℕ) → 3 * t < n → ((j : ℕ) → j < 3 * t → j < n → place j ≡ place' j) → place (3 * t) ≡ place' (3 * t)
+  first_agrees zero inside same = one.start inside ∙ sym (two.start inside)
   first_agrees (suc t) inside same = go (one.found (suc t) (omega arith) inside) (two.found (suc t) (omega arith) inside)
     where
       go : (k : ℕ) × IsFoundFrom halves place number (suc t) k → (k : ℕ) × IsFoundFrom halves place' number' (suc t) k → place (3 * suc t) ≡ place' (3 * suc t)
       go f g = elim (cases_eq f.0 g.0) [
         | inl e ↦ sym f.1.twin ∙ ap (twin_at halves) (same f.0 f.1.before (omega (arith, f.1.before)) ∙ ap place' e) ∙ g.1.twin
         | inr ne ↦ elim (cases_lt f.0 g.0) [
-          | inl less ↦ absurd (not_earlier halves h place number place' number' valid one two (suc t) f.0 g.0 inside same f.1 g.1 less)
+          | inl less ↦ absurd (not_earlier halves h place number place' number' n valid one two (suc t) f.0 g.0 inside same f.1 g.1 less)
           | inr more ↦
               let less : g.0 < f.0 = omega arith in
-              absurd (not_earlier halves h place' number' place number valid two one (suc t) g.0 f.0 inside (λ j low below. sym (same j low below)) g.1 f.1 less)
+              absurd (not_earlier halves h place' number' place number n valid two one (suc t) g.0 f.0 inside (λ j low below. sym (same j low below)) g.1 f.1 less)
         ]
       ]
 
-  before_next : (n j : ℕ) → n % 3 ≡ 0 → next_of j < n → j < n
-  before_next n j e less = omega arith
+  before_next : (m j : ℕ) → m % 3 ≡ 0 → next_of j < m → j < m
+  before_next m j e less = omega arith
 
   -- and so have those behind it
-  next_agrees : (j : ℕ) → (j < length halves → place j ≡ place' j) → next_of j < length halves → place (next_of j) ≡ place' (next_of j)
+  next_agrees : (j : ℕ) → (j < n → place j ≡ place' j) → next_of j < n → place (next_of j) ≡ place' (next_of j)
   next_agrees j same inside =
-      let own : j < length halves = before_next (length halves) j valid.triples inside in
+      let own : j < n = before_next n j one.triples inside in
       one.next j own ∙ ap next_of (same own) ∙ sym (two.next j own)
 
-  agree_below : (t k : ℕ) → k < 3 * t → k < length halves → place k ≡ place' k
+  agree_below : (t k : ℕ) → k < 3 * t → k < n → place k ≡ place' k
   agree_below zero k low below = absurd (omega (arith, low))
   agree_below (suc t) k low below =
-      let first : 3 * t < length halves → place (3 * t) ≡ place' (3 * t) = λ inside. first_agrees t inside (agree_below t) in
-      let second : next_of (3 * t) < length halves → place (next_of (3 * t)) ≡ place' (next_of (3 * t)) = next_agrees (3 * t) first in
-      last_three t k (λ j. j < length halves → place j ≡ place' j) (agree_below t) first second (next_agrees (next_of (3 * t)) second) low below
+      let first : 3 * t < n → place (3 * t) ≡ place' (3 * t) = λ inside. first_agrees t inside (agree_below t) in
+      let second : next_of (3 * t) < n → place (next_of (3 * t)) ≡ place' (next_of (3 * t)) = next_agrees (3 * t) first in
+      last_three t k (λ j. j < n → place j ≡ place' j) (agree_below t) first second (next_agrees (next_of (3 * t)) second) low below
+
+  pub begun_place : (k : ℕ) → k < n → place k ≡ place' k
+  begun_place k below = agree_below (suc k) k (omega arith) below
+
+  pub begun_number : (x : ℕ) → x < length halves → number x < n → number x ≡ number' x
+  begun_number x inside low = sym (two.back (number x) low) ∙ ap number' (sym (begun_place (number x) low) ∙ one.forth x inside low)
+
+-- two whole ones agree
+module _ (halves : List Half) (h : ℕ) (place number place' number' : ℕ → ℕ) (valid : HasTwinsInside halves)
+    (one : IsNumbering halves h place number) (two : IsNumbering halves h place' number') where
+  all_of : (f g : ℕ → ℕ) → IsNumbering halves h f g → IsBeginning halves h f g (length halves)
+  all_of f g num = beginning_of halves h f g (length halves) num valid.triples (omega arith)
 
   pub one_place : (k : ℕ) → k < length halves → place k ≡ place' k
-  one_place k below = agree_below (suc k) k (omega arith) below
+  one_place k below = begun_place halves h place number place' number' (length halves) valid (all_of place number one) (all_of place' number' two) k below
 
   pub one_number : (x : ℕ) → x < length halves → number x ≡ number' x
-  one_number x below =
-      let own : number' x < length halves = two.each_once.back_inside x below in
-      ap number (sym (two.each_once.forth_back x below) ∙ sym (one_place (number' x) own)) ∙ one.each_once.back_forth (number' x) own
+  one_number x below = begun_number halves h place number place' number' (length halves) valid (all_of place number one) (all_of place' number' two) x below (one.each_once.back_inside x below)

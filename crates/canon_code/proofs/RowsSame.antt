@@ -8,7 +8,7 @@ use Rattle.tri_core.specs.HalfEdges.{vector_at}
 use Rattle.canon_code.specs.declared.whole.Scaled.{Scaled}
 use Rattle.canon_code.specs.Canonical.{number_at, vector_from}
 use Rattle.canon_code.specs.Coordinates.{pair_at}
-use Rattle.canon_code.specs.Numbered.{entry, IsNumberedBy}
+use Rattle.canon_code.specs.Numbered.{entry, IsListSearch}
 use Rattle.canon_code.specs.Listed.{twin_by}
 use Rattle.canon_code.specs.WholeFrames.{IsWhole, IsWholeRow}
 use Rattle.canon_code.specs.Distinct.{AreListed}
@@ -31,16 +31,16 @@ numbers_are (a ∷ b ∷ c ∷ d ∷ e ∷ f ∷ g ∷ h ∷ i ∷ j ∷ k ∷ [
 numbers_are (a ∷ b ∷ c ∷ d ∷ e ∷ f ∷ g ∷ h ∷ i ∷ j ∷ k ∷ l ∷ r) long = absurd (omega (arith, long))
 
 module _ (d : ℕ) (halves : List Half) (start : Scaled) (shown : List ℕ) (list : List Quad) (are : AreListed d halves start shown list)
-    (h : ℕ) (places numbers : List ℕ) (num : IsNumberedBy halves h places numbers) (t : ℕ) (inside : 3 * t + 2 < length halves) (r : List ℤ) (long : length r ≡ 11) where
+    (looked : ℕ) (places numbers : List ℕ) (search : IsListSearch halves places numbers looked) (t : ℕ) (inside : 3 * t + 2 < length places) (r : List ℤ) (long : length r ≡ 11) where
   -- the numbers of a vector that are listed
-  listed_at : (k : ℕ) → k < length halves → (v : Vector Quad) → 2 * entry shown (entry places k) + 1 < length list → pair_at list (entry shown (entry places k)) ≡ v
+  listed_at : (k : ℕ) → k < length places → (v : Vector Quad) → 2 * entry shown (entry places k) + 1 < length list → pair_at list (entry shown (entry places k)) ≡ v
       → IsWhole d start.frame start.divisor (vector_at halves (entry places k)) v
-  listed_at k own v low same = subst (IsWhole d start.frame start.divisor (vector_at halves (entry places k))) same (are.whole (entry places k) (num.numbering.each_once.forth_inside k own) low)
+  listed_at k own v low same = subst (IsWhole d start.frame start.divisor (vector_at halves (entry places k))) same (are.whole (entry places k) (search.search.inside k own) low)
 
   pub row_from : 2 * entry shown (entry places (3 * t)) + 1 < length list → pair_at list (entry shown (entry places (3 * t))) ≡ vector_from r 0
       → 2 * entry shown (entry places (3 * t + 1)) + 1 < length list → pair_at list (entry shown (entry places (3 * t + 1))) ≡ vector_from r 4
       → number_at r 8 ≡ pos (twin_by halves places numbers (3 * t)) → number_at r 9 ≡ pos (twin_by halves places numbers (3 * t + 1)) → number_at r 10 ≡ pos (twin_by halves places numbers (3 * t + 2))
-      → IsWholeRow d halves start places numbers t r
+      → IsWholeRow d halves start (entry places) (entry numbers) t r
   row_from low first low' second a b c = (
     vector_from r 0,
     vector_from r 4,

@@ -5,7 +5,7 @@ use Prim.Native.Nat.{◌∣◌}
 use native.Mathlib.Nat.{dvd_refl, dvd_trans, dvd-mul_left, dvd_of_mul-dvd-mul_left, le_of_dvd}
 use Rattle.std.proofs.Math.Nat.{mul_comm}
 use Rattle.std.specs.Prelude.{ℤ, pos, negsuc, neg_ℤ, ◌*ℤ◌, ◌<ℤ◌, unsigned_abs}
-use Rattle.std.proofs.lemmas.Bool.{cases_eq}
+use Rattle.std.proofs.lemmas.Bool.{cases_eq, cases_lt}
 use Rattle.std.proofs.lemmas.Int.{ints, unsigned_abs-mul}
 use Rattle.std.specs.Ordering.{int_cmp}
 use Rattle.std.specs.Cmp.Lexicographic.{slice_cmp}
@@ -28,11 +28,13 @@ use Rattle.canon_code.specs.declared.whole.Scaled.{Scaled}
 use Rattle.canon_code.specs.Serials.{row, rows, IsWritten, IsScale, IsSerial}
 use Rattle.canon_code.specs.Codes.{IsBefore}
 use Rattle.canon_code.specs.Canonical.{number_at}
-use Rattle.canon_code.specs.Numbered.{entry, IsNumberedBy}
-use Rattle.canon_code.specs.Listed.{twin_by}
-use Rattle.canon_code.specs.WholeFrames.{IsFrameOf, IsDivisorOf, IsScaleBound, IsScaledBy, numbers_at, IsWhole, IsWholeAt, IsNotWholeAt, IsWholeRow, HasNoWhole}
+use Rattle.canon_code.specs.Numberings.{IsNumbering}
+use Rattle.canon_code.specs.Search.{IsSearch}
+use Rattle.canon_code.specs.Numbered.{entry, IsUnderWay}
+use Rattle.canon_code.specs.WholeFrames.{IsFrameOf, IsDivisorOf, IsScaleBound, IsScaledBy, numbers_at, IsWhole, IsNotWhole, IsWholeAt, IsWholeRow, HasNoWhole}
 use Rattle.canon_code.proofs.Frames.{written_once, written_closed}
-use Rattle.canon_code.proofs.Numberings.{one_place, one_number}
+use Rattle.canon_code.proofs.Numberings.{IsBeginning, beginning_of, begun_place, begun_number}
+use Rattle.canon_code.proofs.NumberLists.{beginning_from, found_few}
 use Rattle.canon_code.proofs.Serials.{twins_inside, turn_at}
 use Rattle.canon_code.proofs.Least.{before_from_greater, equal_from_tie}
 use Rattle.canon_code.proofs.CodeExists.{before_from_number}
@@ -47,9 +49,20 @@ greater_scale (x ∷ y ∷ best) serial n m scale rest long first second is more
     subst (IsBefore (x ∷ y ∷ best)) (sym is)
     (before_from_number (x ∷ y ∷ best) (pos n ∷ pos m ∷ rest) 1 (omega arith) (omega arith) (ap (λ (z : ℤ). z ∷ []) first) (subst (λ z. z <ℤ pos m) (sym second) more))
 
+-- both vectors that triangle t lists are whole
+abbrev pub IsWholeIn : ℕ → List Half → Scaled → (ℕ → ℕ) → ℕ → Type 0
+IsWholeIn d halves start place t = (u : Vector Quad) × (v : Vector Quad) × IsWholeAt d halves start place (3 * t) u × IsWholeAt d halves start place (3 * t + 1) v
+
 -- both vectors that each of the first triangles lists are whole
-abbrev pub AreWholeTo : ℕ → List Half → Scaled → List ℕ → ℕ → Type 0
-AreWholeTo d halves start places n = (t : ℕ) → t < n → (u : Vector Quad) × (v : Vector Quad) × IsWholeAt d halves start places (3 * t) u × IsWholeAt d halves start places (3 * t + 1) v
+abbrev pub AreWholeTo : ℕ → List Half → Scaled → (ℕ → ℕ) → ℕ → Type 0
+AreWholeTo d halves start place n = (t : ℕ) → t < n → IsWholeIn d halves start place t
+
+-- one triangle more
+pub whole_more : (d : ℕ) (halves : List Half) (start : Scaled) (place : ℕ → ℕ) (n : ℕ) → AreWholeTo d halves start place n → IsWholeIn d halves start place n → AreWholeTo d halves start place (n + 1)
+whole_more d halves start place n own last t less = elim (cases_lt t n) [
+  | inl below ↦ own t below
+  | inr above ↦ let same : t ≡ n = omega (arith, less, above) in subst (IsWholeIn d halves start place) (sym same) last
+]
 
 -- a number above zero is its size
 pub size_is : (n : ℤ) → pos 0 <ℤ n → pos (unsigned_abs n) ≡ n
@@ -109,11 +122,11 @@ module _ (d : ℕ) (field : IsFieldNumber d) (halves : List Half) (valid : IsTri
       let there = subst₂ (λ (a b : Vector Quad). IsWritten O (O.int m) a b v w) (sym is.frame.e) (sym is.frame.g) written in
       (whole_is (det O v (vector start.frame.g)) w.0 there.0, whole_is (det O (vector start.frame.e) v) w.1 there.1)
 
-  module _ (places numbers : List ℕ) (num : IsNumberedBy halves start.h places numbers) where
+  module _ (place number : ℕ → ℕ) (num : IsNumbering halves start.h place number) where
     abbrev Written : ℕ → Type 0
-    Written k = (w : Vector Quad) × IsWritten O (O.int m) e₀ g₀ (vector_at halves (entry places k)) w
+    Written k = (w : Vector Quad) × IsWritten O (O.int m) e₀ g₀ (vector_at halves (place k)) w
 
-    module _ (all : AreWholeTo d halves start places (length halves / 3)) where
+    module _ (all : AreWholeTo d halves start place (length halves / 3)) where
       -- the third vectors too
       third : (t : ℕ) → 3 * t + 2 < length halves → Written (3 * t + 2)
       third t inside =
@@ -121,15 +134,15 @@ module _ (d : ℕ) (field : IsFieldNumber d) (halves : List Half) (valid : IsTri
           let first : 3 * t < length halves = omega (arith, inside) in
           let one : next_of (3 * t) ≡ 3 * t + 1 = omega arith in
           let two : next_of (3 * t + 1) ≡ 3 * t + 2 = omega arith in
-          let second : next_of (entry places (3 * t)) ≡ entry places (3 * t + 1) = sym (num.numbering.next (3 * t) first) ∙ ap (entry places) one in
-          let last : previous_of (entry places (3 * t)) ≡ entry places (3 * t + 2) =
-          twice (entry places (3 * t)) ∙ ap next_of second ∙ sym (num.numbering.next (3 * t + 1) (omega (arith, inside))) ∙ ap (entry places) two in (
+          let second : next_of (place (3 * t)) ≡ place (3 * t + 1) = sym (num.next (3 * t) first) ∙ ap place one in
+          let last : previous_of (place (3 * t)) ≡ place (3 * t + 2) =
+          twice (place (3 * t)) ∙ ap next_of second ∙ sym (num.next (3 * t + 1) (omega (arith, inside))) ∙ ap place two in (
             opposite_vector O (vector_sum O r.0 r.1),
             written_closed O (quad_ring d) (order_of d field) (O.int m) e₀ g₀
-                (vector_at halves (entry places (3 * t))) (vector_at halves (entry places (3 * t + 1))) (vector_at halves (entry places (3 * t + 2))) r.0 r.1
-                (ap₂ (λ (p q : ℕ). vector_sum O (vector_sum O (vector_at halves (entry places (3 * t))) (vector_at halves p)) (vector_at halves q)) (sym second) (sym last)
-                ∙ (triple_at d halves (entry places (3 * t)) valid (num.numbering.each_once.forth_inside (3 * t) first)).closed)
-                (at_frame (vector_at halves (entry places (3 * t))) r.0 r.2) (at_frame (vector_at halves (entry places (3 * t + 1))) r.1 r.3),
+                (vector_at halves (place (3 * t))) (vector_at halves (place (3 * t + 1))) (vector_at halves (place (3 * t + 2))) r.0 r.1
+                (ap₂ (λ (p q : ℕ). vector_sum O (vector_sum O (vector_at halves (place (3 * t))) (vector_at halves p)) (vector_at halves q)) (sym second) (sym last)
+                ∙ (triple_at d halves (place (3 * t)) valid (num.each_once.forth_inside (3 * t) first)).closed)
+                (at_frame (vector_at halves (place (3 * t))) r.0 r.2) (at_frame (vector_at halves (place (3 * t + 1))) r.1 r.3),
           )
         where
           twice : (k : ℕ) → previous_of k ≡ next_of (next_of k)
@@ -140,9 +153,9 @@ module _ (d : ℕ) (field : IsFieldNumber d) (halves : List Half) (valid : IsTri
           let t : ℕ = k / 3 in
           let r = all t (omega (arith, less, valid.count.0)) in
           elim (cases_eq k (3 * t)) [
-            | inl e ↦ subst Written (sym e) (r.0, at_frame (vector_at halves (entry places (3 * t))) r.0 r.2)
+            | inl e ↦ subst Written (sym e) (r.0, at_frame (vector_at halves (place (3 * t))) r.0 r.2)
             | inr other ↦ elim (cases_eq k (3 * t + 1)) [
-              | inl e ↦ subst Written (sym e) (r.1, at_frame (vector_at halves (entry places (3 * t + 1))) r.1 r.3)
+              | inl e ↦ subst Written (sym e) (r.1, at_frame (vector_at halves (place (3 * t + 1))) r.1 r.3)
               | inr another ↦ let e : k ≡ 3 * t + 2 = omega (arith, other, another) in subst Written (sym e) (third t (subst (λ n. n < length halves) e less))
             ]
           ]
@@ -152,72 +165,106 @@ module _ (d : ℕ) (field : IsFieldNumber d) (halves : List Half) (valid : IsTri
       scale_is = (
         omega (arith, ints, is.some),
         λ j less.
-            let w = written_to (entry numbers j) (num.numbering.each_once.back_inside j less) in (
+            let w = written_to (number j) (num.each_once.back_inside j less) in (
               w.0,
-              subst₂ (λ (n : ℤ) (p : ℕ). IsWritten O (O.int n) e₀ g₀ (vector_at halves p) w.0) (sym (size_is m is.some)) (num.numbering.each_once.forth_back j less) w.1,
+              subst₂ (λ (n : ℤ) (p : ℕ). IsWritten O (O.int n) e₀ g₀ (vector_at halves p) w.0) (sym (size_is m is.some)) (num.each_once.forth_back j less) w.1,
             ),
       )
 
-    module _ (serial : List ℤ) (s : IsSerial d halves start.h serial) where
-      place_is : (k : ℕ) → k < length halves → s.place k ≡ entry places k
-      place_is k own = one_place halves start.h s.place s.number (entry places) (entry numbers) (twins_inside d halves valid) s.numbering num.numbering k own
+  module _ (serial : List ℤ) (s : IsSerial d halves start.h serial) where
+    -- a row of a search that looked at the triangle is one of the numbering
+    pub row_in_serial : (places numbers : List ℕ) (t : ℕ) → IsUnderWay halves start.h places numbers (3 * (t + 1)) → (numbers_are : List ℤ) → IsWholeRow d halves start (entry places) (entry numbers) t numbers_are
+        → IsWholeRow d halves start s.place s.number t numbers_are
+    row_in_serial places numbers t w numbers_are r =
+        let a = one (3 * t) (omega arith) in
+        let b = one (3 * t + 1) (omega arith) in
+        let c = one (3 * t + 2) (omega arith) in (
+          r.0,
+          r.1,
+          subst (λ (p : ℕ). IsWhole d start.frame start.divisor (vector_at halves p) r.0) a r.2,
+          subst (λ (p : ℕ). IsWhole d start.frame start.divisor (vector_at halves p) r.1) b r.3,
+          r.4 ∙ λ i.
+              r.0.0.a ∷ r.0.0.b ∷ r.0.1.a ∷ r.0.1.b ∷ r.1.0.a ∷ r.1.0.b ∷ r.1.1.a ∷ r.1.1.b
+              ∷ pos (twin (3 * t) (omega arith) i) ∷ pos (twin (3 * t + 1) (omega arith) i) ∷ pos (twin (3 * t + 2) (omega arith) i) ∷ [],
+        )
+      where
+        search : IsSearch halves (entry places 0) (entry places) (entry numbers) (length places) (3 * (t + 1))
+        search = w.search.search
 
-      twin_is : (k : ℕ) → k < length halves → s.number (twin_at halves (s.place k)) ≡ twin_by halves places numbers k
-      twin_is k own =
-          ap (λ p. s.number (twin_at halves p)) (place_is k own)
-          ∙ one_number halves start.h s.place s.number (entry places) (entry numbers) (twins_inside d halves valid) s.numbering num.numbering (twin_at halves (entry places k))
-          (valid.paired (entry places k) (num.numbering.each_once.forth_inside k own)).0
+        few : length places ≤ length halves
+        few = found_few halves places numbers (3 * (t + 1)) w.search
 
-      module _ (one : pos s.scale ≡ m) where
-        listed : (k : ℕ) → k < length halves → IsWritten O (O.int m) e₀ g₀ (vector_at halves (entry places k)) (s.written k)
-        listed k own = subst₂ (λ (n : ℤ) (p : ℕ). IsWritten O (O.int n) e₀ g₀ (vector_at halves p) (s.written k)) one (place_is k own) (s.vectors k own)
+        begun : IsBeginning halves start.h (entry places) (entry numbers) (length places)
+        begun = beginning_from halves places numbers start.h (3 * (t + 1)) w
 
-        written_is : (k : ℕ) → k < length halves → (w : Vector Quad) → IsWholeAt d halves start places k w → s.written k ≡ w
-        written_is k own w whole =
-            written_once O (quad_ring d) (order_of d field) (O.int m) e₀ g₀ (vector_at halves (entry places k)) (s.written k) w (turn_at d field halves start.h valid is.inside)
-            (listed k own) (at_frame (vector_at halves (entry places k)) w whole)
+        whole : IsBeginning halves start.h s.place s.number (length places)
+        whole = beginning_of halves start.h s.place s.number (length places) s.numbering search.triples few
 
-        pub row_is : (t : ℕ) → 3 * t + 2 < length halves → (numbers_are : List ℤ) → IsWholeRow d halves start places numbers t numbers_are
-            → numbers_are ≡ row s.written (λ k. s.number (twin_at halves (s.place k))) t
-        row_is t inside numbers_are r =
-            let first : s.written (3 * t) ≡ r.0 = written_is (3 * t) (omega (arith, inside)) r.0 r.2 in
-            let second : s.written (3 * t + 1) ≡ r.1 = written_is (3 * t + 1) (omega (arith, inside)) r.1 r.3 in
-            let a = twin_is (3 * t) (omega (arith, inside)) in
-            let b = twin_is (3 * t + 1) (omega (arith, inside)) in
-            let c = twin_is (3 * t + 2) inside in
-            r.4 ∙ sym (λ i. (first i).0.a ∷ (first i).0.b ∷ (first i).1.a ∷ (first i).1.b ∷ (second i).0.a ∷ (second i).0.b ∷ (second i).1.a ∷ (second i).1.b ∷ pos (a i) ∷ pos (b i) ∷ pos (c i) ∷ [])
+        one : (k : ℕ) → k < 3 * (t + 1) → entry places k ≡ s.place k
+        one k low = begun_place halves start.h (entry places) (entry numbers) s.place s.number (length places) (twins_inside d halves valid) begun whole k (omega (arith, low, search.enough))
 
-        -- over the scale each half-edge has whole numbers
-        none_broken : HasNoWhole d halves start places → ⊥
-        none_broken r = go (from_frame (vector_at halves (entry places r.0)) (s.written r.0) (listed r.0 r.1)) r.2
-          where
-            go : IsWholeAt d halves start places r.0 (s.written r.0) → IsNotWholeAt d halves start places r.0 → ⊥
-            go whole (inl none) = none (s.written r.0).0 whole.0
-            go whole (inr none) = none (s.written r.0).1 whole.1
+        twin : (k : ℕ) → k < 3 * (t + 1) → entry numbers (twin_at halves (entry places k)) ≡ s.number (twin_at halves (s.place k))
+        twin k low =
+            begun_number halves start.h (entry places) (entry numbers) s.place s.number (length places) (twins_inside d halves valid) begun whole (twin_at halves (entry places k))
+            (valid.paired (entry places k) (search.inside k (omega (arith, low, search.enough)))).0 (search.seen k low)
+            ∙ ap (λ p. s.number (twin_at halves p)) (one k low)
 
-      -- the start is after the best where the serial would be, if its scale were m
-      pub after_from : (best : List ℤ) → 1 < length best → number_at best 0 ≡ pos (length halves / 3) → number_at best 1 ≡ m → (pos s.scale ≡ m → slice_cmp int_cmp serial best ≡ Greater) → IsBefore best serial
-      after_from best long first second told = elim (cases_eq s.scale (unsigned_abs m)) [
-        | inl one ↦ before_from_greater serial best (told (ap pos one ∙ size_is m is.some))
-        | inr other ↦
-            let least : unsigned_abs m ≤ s.scale = is.least s.scale s.least.0 in
-            let more : m <ℤ pos s.scale = subst (λ z. z <ℤ pos s.scale) (size_is m is.some) (omega (arith, ints, least, other)) in
-            greater_scale best serial (length halves / 3) s.scale m (rows s.written (λ k. s.number (twin_at halves (s.place k))) (length halves / 3)) long first second s.numbers more
-      ]
+    module _ (one : pos s.scale ≡ m) where
+      listed : (k : ℕ) → k < length halves → IsWritten O (O.int m) e₀ g₀ (vector_at halves (s.place k)) (s.written k)
+      listed k own = subst (λ (n : ℤ). IsWritten O (O.int n) e₀ g₀ (vector_at halves (s.place k)) (s.written k)) one (s.vectors k own)
 
-      -- where a half-edge has no whole numbers the scale is greater
-      pub after_broken : (best : List ℤ) → 1 < length best → number_at best 0 ≡ pos (length halves / 3) → number_at best 1 ≡ m → HasNoWhole d halves start places → IsBefore best serial
-      after_broken best long first second none = after_from best long first second (λ one. absurd (none_broken one none))
+      written_is : (k : ℕ) → k < length halves → (w : Vector Quad) → IsWholeAt d halves start s.place k w → s.written k ≡ w
+      written_is k own w whole =
+          written_once O (quad_ring d) (order_of d field) (O.int m) e₀ g₀ (vector_at halves (s.place k)) (s.written k) w (turn_at d field halves start.h valid is.inside)
+          (listed k own) (at_frame (vector_at halves (s.place k)) w whole)
 
-    -- where all are whole the scale is m
-    pub same_from : AreWholeTo d halves start places (length halves / 3) → (best : List ℤ) → ((serial : List ℤ) (s : IsSerial d halves start.h serial) → pos s.scale ≡ m → slice_cmp int_cmp serial best ≡ Equal) → IsSerial d halves start.h best
-    same_from all best told =
-        let r = some_serial d field halves start.h valid is.inside in
-        let s : IsSerial d halves start.h r.0 = r.1 in
-        let most : s.scale ≤ unsigned_abs m = s.least.1 (unsigned_abs m) (scale_is all) in
-        let least : unsigned_abs m ≤ s.scale = is.least s.scale s.least.0 in
-        let one : s.scale ≡ unsigned_abs m = omega (arith, most, least) in
-        subst (IsSerial d halves start.h) (equal_from_tie r.0 best (told r.0 s (ap pos one ∙ size_is m is.some))) s
+      pub row_is : (t : ℕ) → 3 * t + 2 < length halves → (numbers_are : List ℤ) → IsWholeRow d halves start s.place s.number t numbers_are
+          → numbers_are ≡ row s.written (λ k. s.number (twin_at halves (s.place k))) t
+      row_is t inside numbers_are r =
+          let first : s.written (3 * t) ≡ r.0 = written_is (3 * t) (omega (arith, inside)) r.0 r.2 in
+          let second : s.written (3 * t + 1) ≡ r.1 = written_is (3 * t + 1) (omega (arith, inside)) r.1 r.3 in
+          let a = s.number (twin_at halves (s.place (3 * t))) in
+          let b = s.number (twin_at halves (s.place (3 * t + 1))) in
+          let c = s.number (twin_at halves (s.place (3 * t + 2))) in
+          r.4 ∙ sym (λ i. (first i).0.a ∷ (first i).0.b ∷ (first i).1.a ∷ (first i).1.b ∷ (second i).0.a ∷ (second i).0.b ∷ (second i).1.a ∷ (second i).1.b ∷ pos a ∷ pos b ∷ pos c ∷ [])
+
+      -- over the scale each half-edge has whole numbers
+      none_broken : HasNoWhole d halves start → ⊥
+      none_broken r =
+          let k : ℕ = s.number r.0 in
+          let back : s.place k ≡ r.0 = s.numbering.each_once.forth_back r.0 r.1 in
+          go (s.written k)
+          (subst (λ (p : ℕ). IsWhole d start.frame start.divisor (vector_at halves p) (s.written k)) back
+          (from_frame (vector_at halves (s.place k)) (s.written k) (listed k (s.numbering.each_once.back_inside r.0 r.1)))) r.2
+        where
+          go : (w : Vector Quad) → IsWhole d start.frame start.divisor (vector_at halves r.0) w → IsNotWhole d start.frame start.divisor (vector_at halves r.0) → ⊥
+          go w whole (inl none) = none w.0 whole.0
+          go w whole (inr none) = none w.1 whole.1
+
+    -- the start is after the best where the serial would be, if its scale were m
+    pub after_from : (best : List ℤ) → 1 < length best → number_at best 0 ≡ pos (length halves / 3) → number_at best 1 ≡ m → (pos s.scale ≡ m → slice_cmp int_cmp serial best ≡ Greater) → IsBefore best serial
+    after_from best long first second told = elim (cases_eq s.scale (unsigned_abs m)) [
+      | inl one ↦ before_from_greater serial best (told (ap pos one ∙ size_is m is.some))
+      | inr other ↦
+          let least : unsigned_abs m ≤ s.scale = is.least s.scale s.least.0 in
+          let more : m <ℤ pos s.scale = subst (λ z. z <ℤ pos s.scale) (size_is m is.some) (omega (arith, ints, least, other)) in
+          greater_scale best serial (length halves / 3) s.scale m (rows s.written (λ k. s.number (twin_at halves (s.place k))) (length halves / 3)) long first second s.numbers more
+    ]
+
+    -- where a half-edge has no whole numbers the scale is greater
+    pub after_broken : (best : List ℤ) → 1 < length best → number_at best 0 ≡ pos (length halves / 3) → number_at best 1 ≡ m → HasNoWhole d halves start → IsBefore best serial
+    after_broken best long first second none = after_from best long first second (λ one. absurd (none_broken one none))
+
+  -- where all are whole the scale is m
+  pub same_from : ((serial : List ℤ) (s : IsSerial d halves start.h serial) → AreWholeTo d halves start s.place (length halves / 3)) → (best : List ℤ)
+      → ((serial : List ℤ) (s : IsSerial d halves start.h serial) → pos s.scale ≡ m → slice_cmp int_cmp serial best ≡ Equal) → IsSerial d halves start.h best
+  same_from all best told =
+      let r = some_serial d field halves start.h valid is.inside in
+      let s : IsSerial d halves start.h r.0 = r.1 in
+      let most : s.scale ≤ unsigned_abs m = s.least.1 (unsigned_abs m) (scale_is s.place s.number s.numbering (all r.0 s)) in
+      let least : unsigned_abs m ≤ s.scale = is.least s.scale s.least.0 in
+      let one : s.scale ≡ unsigned_abs m = omega (arith, most, least) in
+      subst (IsSerial d halves start.h) (equal_from_tie r.0 best (told r.0 s (ap pos one ∙ size_is m is.some))) s
 
 -- no scale is below the norm over a divisor
 module _ (d : ℕ) (halves : List Half) (h : ℕ) (norm q g : ℤ) (positive : pos 0 <ℤ g) (quotient : norm ≡ q *ℤ g) (bound : IsScaleBound d halves h norm g) where

@@ -5,15 +5,13 @@ use Rattle.quad_field.specs.declared.quad.Quad.{Quad}
 use Rattle.quad_field.specs.Quads.{quad, quad_ops, scaled}
 use Rattle.plane.specs.Vectors.{Vector, vector, det}
 use Rattle.tri_core.specs.declared.half.Half.{Half}
-use Rattle.tri_core.specs.HalfEdges.{vector_at, next_of}
+use Rattle.tri_core.specs.HalfEdges.{vector_at, twin_at, next_of}
 use Rattle.canon_code.specs.declared.coordinates.Frame.{Frame}
 use Rattle.canon_code.specs.declared.whole.Scaled.{Scaled}
 use Rattle.canon_code.specs.declared.whole.Told.{Told}
 use Rattle.canon_code.specs.declared.whole.Told.TheVariants.{After, Same, Open}
 use Rattle.canon_code.specs.Serials.{parts, IsScale, IsSerial}
 use Rattle.canon_code.specs.Codes.{IsBefore}
-use Rattle.canon_code.specs.Numbered.{entry}
-use Rattle.canon_code.specs.Listed.{twin_by}
 
 -- the frame of start h, with the norm of its determinant
 pub record IsFrameOf (d : ℕ) (halves : List Half) (h : ℕ) (frame : Frame) : Type 0 where
@@ -61,22 +59,18 @@ pub record IsScaledBy (d : ℕ) (halves : List Half) (m : ℤ) (start : Scaled) 
   pub least : (n : ℕ) → IsScale d halves start.h n → unsigned_abs m ≤ n
 
 -- the same for the half-edge of new number k
-abbrev pub IsWholeAt : ℕ → List Half → Scaled → List ℕ → ℕ → Vector Quad → Type 0
-IsWholeAt d halves start places k w = IsWhole d start.frame start.divisor (vector_at halves (entry places k)) w
+abbrev pub IsWholeAt : ℕ → List Half → Scaled → (ℕ → ℕ) → ℕ → Vector Quad → Type 0
+IsWholeAt d halves start place k w = IsWhole d start.frame start.divisor (vector_at halves (place k)) w
 
 -- the numbers of triangle t over the divisor
-abbrev pub IsWholeRow : ℕ → List Half → Scaled → List ℕ → List ℕ → ℕ → List ℤ → Type 0
-IsWholeRow d halves start places numbers t numbers_are =
-    (u : Vector Quad) × (v : Vector Quad) × IsWholeAt d halves start places (3 * t) u × IsWholeAt d halves start places (3 * t + 1) v
-    × (numbers_are ≡ parts u ++ (parts v ++ (pos (twin_by halves places numbers (3 * t)) ∷ pos (twin_by halves places numbers (3 * t + 1)) ∷ pos (twin_by halves places numbers (3 * t + 2)) ∷ [])))
+abbrev pub IsWholeRow : ℕ → List Half → Scaled → (ℕ → ℕ) → (ℕ → ℕ) → ℕ → List ℤ → Type 0
+IsWholeRow d halves start place number t numbers_are =
+    (u : Vector Quad) × (v : Vector Quad) × IsWholeAt d halves start place (3 * t) u × IsWholeAt d halves start place (3 * t + 1) v
+    × (numbers_are ≡ parts u ++ (parts v ++ (pos (number (twin_at halves (place (3 * t)))) ∷ pos (number (twin_at halves (place (3 * t + 1)))) ∷ pos (number (twin_at halves (place (3 * t + 2)))) ∷ [])))
 
--- the half-edge of new number k has no whole numbers over the divisor
-abbrev pub IsNotWholeAt : ℕ → List Half → Scaled → List ℕ → ℕ → Type 0
-IsNotWholeAt d halves start places k = IsNotWhole d start.frame start.divisor (vector_at halves (entry places k))
-
--- some half-edge has none
-abbrev pub HasNoWhole : ℕ → List Half → Scaled → List ℕ → Type 0
-HasNoWhole d halves start places = (k : ℕ) × (k < length halves) × IsNotWholeAt d halves start places k
+-- some half-edge has no whole numbers over the divisor
+abbrev pub HasNoWhole : ℕ → List Half → Scaled → Type 0
+HasNoWhole d halves start = (k : ℕ) × (k < length halves) × IsNotWhole d start.frame start.divisor (vector_at halves k)
 
 -- what is told of start h, where the list is the best: each serial is after it, or it is the serial, or nothing
 abbrev pub IsTold : ℕ → List Half → ℕ → List ℤ → Told → Type 0

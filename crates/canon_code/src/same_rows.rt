@@ -6,7 +6,7 @@ ghost use Rattle.tri_core.specs.Triangulation.{IsTriangulation};
 ghost use Rattle.canon_code.specs.declared.whole.Scaled.{Scaled};
 ghost use Rattle.canon_code.specs.Canonical.{number_at, vector_from};
 ghost use Rattle.canon_code.specs.Coordinates.{pair_at};
-ghost use Rattle.canon_code.specs.Numbered.{entry, IsNumberedBy};
+ghost use Rattle.canon_code.specs.Numbered.{entry, IsListSearch};
 ghost use Rattle.canon_code.specs.Listed.{twin_by};
 ghost use Rattle.canon_code.specs.WholeFrames.{IsWholeRow};
 ghost use Rattle.canon_code.specs.Distinct.{AreListed};
@@ -23,8 +23,8 @@ use tri_core::Tri;
 #[inline]
 pub fn twin_at(tri: &Tri, numbering: &Numbering, k: u32) -> i128
     requires valid { IsTriangulation tri.now.field tri.now.halves }
-    requires numbering { (h : ℕ) × IsNumberedBy tri.now.halves h numbering.now.places.items numbering.now.numbers.items }
-    requires half { k < length tri.now.halves }
+    requires numbering { (looked : ℕ) × IsListSearch tri.now.halves numbering.now.places.items numbering.now.numbers.items looked }
+    requires half { k < length numbering.now.places.items }
     ensures twin { result ≡ pos (twin_by tri.now.halves numbering.now.places.items numbering.now.numbers.items k) }
     ensures fits { FitsI128 result }
 {
@@ -53,8 +53,8 @@ fn same_pair(places: &[u32], list: &[Quad], k: u32, row: &[i128], at: usize) -> 
 #[inline]
 fn same_twin(tri: &Tri, numbering: &Numbering, k: u32, number: i128) -> bool
     requires valid { IsTriangulation tri.now.field tri.now.halves }
-    requires numbering { (h : ℕ) × IsNumberedBy tri.now.halves h numbering.now.places.items numbering.now.numbers.items }
-    requires half { k < length tri.now.halves }
+    requires numbering { (looked : ℕ) × IsListSearch tri.now.halves numbering.now.places.items numbering.now.numbers.items looked }
+    requires half { k < length numbering.now.places.items }
     ensures { IsTrue result → number ≡ pos (twin_by tri.now.halves numbering.now.places.items numbering.now.numbers.items k) }
 {
     number == twin_at(tri, numbering, k)
@@ -79,8 +79,9 @@ fn same_vectors(places: &[u32], list: &[Quad], first: u32, second: u32, row: &[i
 /// Whether the twins of triangle t, of the new numbers, have the last three numbers of the row.
 fn same_twins(tri: &Tri, numbering: &Numbering, row: &[i128], t: u32) -> bool
     requires valid { IsTriangulation tri.now.field tri.now.halves }
-    requires numbering { (h : ℕ) × IsNumberedBy tri.now.halves h numbering.now.places.items numbering.now.numbers.items }
+    requires numbering { (looked : ℕ) × IsListSearch tri.now.halves numbering.now.places.items numbering.now.numbers.items looked }
     requires triangle { 3 * t + 2 < length tri.now.halves }
+    requires reached { 3 * t + 2 < length numbering.now.places.items }
     requires long { length row.now ≡ 11 }
     ensures first { IsTrue result → number_at row.now 8 ≡ pos (twin_by tri.now.halves numbering.now.places.items numbering.now.numbers.items (3 * t)) }
     ensures second { IsTrue result → number_at row.now 9 ≡ pos (twin_by tri.now.halves numbering.now.places.items numbering.now.numbers.items (3 * t + 1)) }
@@ -105,11 +106,12 @@ pub fn same_row(
 ) -> bool
     requires valid { IsTriangulation tri.now.field tri.now.halves }
     requires places { length places.now ≡ length tri.now.halves }
-    requires numbering { (h : ℕ) × IsNumberedBy tri.now.halves h numbering.now.places.items numbering.now.numbers.items }
+    requires numbering { (looked : ℕ) × IsListSearch tri.now.halves numbering.now.places.items numbering.now.numbers.items looked }
     requires triangle { 3 * t + 2 < length tri.now.halves }
+    requires reached { 3 * t + 2 < length numbering.now.places.items }
     requires long { length row.now ≡ 11 }
     ensures { IsTrue result → (d : ℕ) (start : Scaled) → AreListed d tri.now.halves start places.now list.now
-        → IsWholeRow d tri.now.halves start numbering.now.places.items numbering.now.numbers.items t row.now }
+        → IsWholeRow d tri.now.halves start (entry numbering.now.places.items) (entry numbering.now.numbers.items) t row.now }
 {
     let first = numbering.places[3 * t as usize];
     let second = numbering.places[3 * t as usize + 1];

@@ -10,15 +10,14 @@ ghost use Rattle.tri_core.specs.declared.half.Half.{Half};
 ghost use Rattle.tri_core.specs.HalfEdges.{vector_at};
 ghost use Rattle.tri_core.specs.Triangulation.{IsTriangulation};
 ghost use Rattle.canon_code.specs.Canonical.{number_at};
-ghost use Rattle.canon_code.specs.Numbered.{IsNumberedBy};
-ghost use Rattle.canon_code.specs.Listed.{twin_by};
+ghost use Rattle.canon_code.specs.Numbered.{entry, IsListSearch, IsUnderWay};
 ghost use Rattle.canon_code.specs.Small.{IsSmallFrame};
 ghost use Rattle.canon_code.specs.Distinct.{AreInside, AreDistinct, ArePairs, AreListed};
-ghost use Rattle.canon_code.specs.WholeFrames.{IsFrameOf, IsDivisorOf, IsScaledBy, IsWhole, IsNotWhole, IsWholeAt, IsNotWholeAt, IsWholeRow, HasNoWhole, IsTold};
+ghost use Rattle.canon_code.specs.WholeFrames.{IsFrameOf, IsDivisorOf, IsScaledBy, IsWhole, IsNotWhole, IsWholeAt, IsWholeRow, HasNoWhole, IsTold};
 
 use super::coordinates::{Coordinates, Frame, frame_of, push_pair, whole_number, whole_pair};
 use super::distinct::{Distinct, listed_pair};
-use super::numbering::{Numbering, number_from};
+use super::numbering::{Numbering, begin, look_around};
 use super::same_rows::{same_row, twin_at};
 use super::serial::{Tried, row_in, scale_number};
 use super::small::{SmallFrame, quick_numbers, small_numbers, small_of, whole_both};
@@ -226,10 +225,10 @@ fn whole_at(
     requires positive { pos 0 <ℤ start.now.divisor }
     requires small { IfSome start.now.small (IsSmallFrame f.now start.now.frame start.now.divisor) }
     requires listed { AreListed f.now tri.now.halves start.now places.now list.now }
-    requires numbering { (h : ℕ) × IsNumberedBy tri.now.halves h numbering.now.places.items numbering.now.numbers.items }
-    requires half { k < length tri.now.halves }
-    ensures whole { IfOk result (λ o. IfSome o (λ w. IsWholeAt f.now tri.now.halves start.now numbering.now.places.items k (w.0, w.1))) }
-    ensures none { IfOk result (λ o. IfNone o (IsNotWholeAt f.now tri.now.halves start.now numbering.now.places.items k)) }
+    requires numbering { (looked : ℕ) × IsListSearch tri.now.halves numbering.now.places.items numbering.now.numbers.items looked }
+    requires half { k < length numbering.now.places.items }
+    ensures whole { IfOk result (λ o. IfSome o (λ w. IsWholeAt f.now tri.now.halves start.now (entry numbering.now.places.items) k (w.0, w.1))) }
+    ensures none { IfOk result (λ o. IfNone o (HasNoWhole f.now tri.now.halves start.now)) }
     ensures fits { IfOk result (λ o. IfSome o (λ w. PartsFit w.0 × PartsFit w.1)) }
 {
     pair_of(f, tri, start, places, list, numbering.places[k as usize])
@@ -248,11 +247,12 @@ fn both_at(
     requires positive { pos 0 <ℤ start.now.divisor }
     requires small { IfSome start.now.small (IsSmallFrame f.now start.now.frame start.now.divisor) }
     requires listed { AreListed f.now tri.now.halves start.now places.now list.now }
-    requires numbering { (h : ℕ) × IsNumberedBy tri.now.halves h numbering.now.places.items numbering.now.numbers.items }
+    requires numbering { (looked : ℕ) × IsListSearch tri.now.halves numbering.now.places.items numbering.now.numbers.items looked }
     requires triangle { 3 * t + 2 < length tri.now.halves }
-    ensures first { IfOk result (λ o. IfSome o (λ w. IsWholeAt f.now tri.now.halves start.now numbering.now.places.items (3 * t) (w.0, w.1))) }
-    ensures second { IfOk result (λ o. IfSome o (λ w. IsWholeAt f.now tri.now.halves start.now numbering.now.places.items (3 * t + 1) (w.2, w.3))) }
-    ensures none { IfOk result (λ o. IfNone o (HasNoWhole f.now tri.now.halves start.now numbering.now.places.items)) }
+    requires reached { 3 * t + 2 < length numbering.now.places.items }
+    ensures first { IfOk result (λ o. IfSome o (λ w. IsWholeAt f.now tri.now.halves start.now (entry numbering.now.places.items) (3 * t) (w.0, w.1))) }
+    ensures second { IfOk result (λ o. IfSome o (λ w. IsWholeAt f.now tri.now.halves start.now (entry numbering.now.places.items) (3 * t + 1) (w.2, w.3))) }
+    ensures none { IfOk result (λ o. IfNone o (HasNoWhole f.now tri.now.halves start.now)) }
     ensures fits { IfOk result (λ o. IfSome o (λ w. PartsFit w.0 × PartsFit w.1 × PartsFit w.2 × PartsFit w.3)) }
 {
     let _count = tri.triangles();
@@ -279,10 +279,11 @@ fn whole_row(
     requires positive { pos 0 <ℤ start.now.divisor }
     requires small { IfSome start.now.small (IsSmallFrame f.now start.now.frame start.now.divisor) }
     requires listed { AreListed f.now tri.now.halves start.now places.now list.now }
-    requires numbering { (h : ℕ) × IsNumberedBy tri.now.halves h numbering.now.places.items numbering.now.numbers.items }
+    requires numbering { (looked : ℕ) × IsListSearch tri.now.halves numbering.now.places.items numbering.now.numbers.items looked }
     requires triangle { 3 * t + 2 < length tri.now.halves }
-    ensures whole { IfOk result (λ o. IfSome o (IsWholeRow f.now tri.now.halves start.now numbering.now.places.items numbering.now.numbers.items t)) }
-    ensures none { IfOk result (λ o. IfNone o (HasNoWhole f.now tri.now.halves start.now numbering.now.places.items)) }
+    requires reached { 3 * t + 2 < length numbering.now.places.items }
+    ensures whole { IfOk result (λ o. IfSome o (IsWholeRow f.now tri.now.halves start.now (entry numbering.now.places.items) (entry numbering.now.numbers.items) t)) }
+    ensures none { IfOk result (λ o. IfNone o (HasNoWhole f.now tri.now.halves start.now)) }
 {
     match both_at(f, tri, start, places, list, numbering, t)? {
         Some((x, y, z, w)) => {
@@ -295,28 +296,19 @@ fn whole_row(
     }
 }
 
-/// Whether a half-edge, from new number `from` on, has coordinates that aren't whole over the best scale. Where that isn't told the answer is no.
-fn is_broken(
-    f: &Field,
-    tri: &Tri,
-    start: &Scaled,
-    places: &[u32],
-    list: &[Quad],
-    numbering: &Numbering,
-    from: u32,
-) -> bool
+/// Whether a half-edge has coordinates that aren't whole over the best scale. Where that isn't told the answer is no.
+fn is_broken(f: &Field, tri: &Tri, start: &Scaled, places: &[u32], list: &[Quad]) -> bool
     requires positive { pos 0 <ℤ start.now.divisor }
     requires small { IfSome start.now.small (IsSmallFrame f.now start.now.frame start.now.divisor) }
     requires listed { AreListed f.now tri.now.halves start.now places.now list.now }
-    requires numbering { (h : ℕ) × IsNumberedBy tri.now.halves h numbering.now.places.items numbering.now.numbers.items }
-    ensures { IsTrue result → HasNoWhole f.now tri.now.halves start.now numbering.now.places.items }
+    ensures { IsTrue result → HasNoWhole f.now tri.now.halves start.now }
 {
     if start.divisor == 1 {
         return false;
     }
     let count = 3 * tri.triangles();
-    for k in from..count {
-        match whole_at(f, tri, start, places, list, numbering, k) {
+    for k in 0..count {
+        match pair_of(f, tri, start, places, list, k) {
             Ok(Some(_whole)) => {}
             Ok(None) => return true,
             Err(TooWide) => return false,
@@ -325,7 +317,7 @@ fn is_broken(
     false
 }
 
-/// How a start compares with the best, told by the first triangle that differs.
+/// How a start compares with the best, told by the first triangle that differs: the numbering goes on only as far as the triangles that are compared.
 fn compared(
     best: &[i128],
     f: &Field,
@@ -333,20 +325,21 @@ fn compared(
     start: &Scaled,
     places: &[u32],
     list: &[Quad],
-    numbering: &Numbering,
-) -> Told
+    numbering: &mut Numbering,
+) -> Result<Told, AllocError>
     requires field { f.now ≡ tri.now.field }
     requires start { IsScaledBy f.now tri.now.halves (number_at best.now 1) start.now }
     requires small { IfSome start.now.small (IsSmallFrame f.now start.now.frame start.now.divisor) }
     requires listed { AreListed f.now tri.now.halves start.now places.now list.now }
-    requires numbering { IsNumberedBy tri.now.halves start.now.h numbering.now.places.items numbering.now.numbers.items }
+    requires numbering { IsUnderWay tri.now.halves start.now.h numbering.old.places.items numbering.old.numbers.items 0 }
     requires long { length best.now ≡ 2 + 11 * (length tri.now.halves / 3) }
     requires first { number_at best.now 0 ≡ pos (length tri.now.halves / 3) }
-    ensures { IsTold f.now tri.now.halves start.now.h best.now result }
+    ensures { IfOk result (IsTold f.now tri.now.halves start.now.h best.now) }
 {
     let _number = f.number();
     let count = tri.triangles();
     for t in 0..count {
+        look_around(tri, numbering, t)?;
         let own = row_in(best, t);
         if same_row(tri, places, list, numbering, own, t) {
             continue;
@@ -354,19 +347,19 @@ fn compared(
         match whole_row(f, tri, start, places, list, numbering, t) {
             Ok(Some(row)) => match row.as_slice().cmp(own) {
                 Ordering::Less => {
-                    if is_broken(f, tri, start, places, list, numbering, 3 * t + 3) {
-                        return Told::After;
+                    if is_broken(f, tri, start, places, list) {
+                        return Ok(Told::After);
                     }
-                    return Told::Open;
+                    return Ok(Told::Open);
                 }
                 Ordering::Equal => {}
-                Ordering::Greater => return Told::After,
+                Ordering::Greater => return Ok(Told::After),
             },
-            Ok(None) => return Told::After,
-            Err(TooWide) => return Told::Open,
+            Ok(None) => return Ok(Told::After),
+            Err(TooWide) => return Ok(Told::Open),
         }
     }
-    Told::Same
+    Ok(Told::Same)
 }
 
 /// What is told of a start whose scale may be the best one, in the lists of an earlier one.
@@ -386,12 +379,12 @@ fn told_at(
     requires first { number_at best.now 0 ≡ pos (length tri.now.halves / 3) }
     ensures { IfOk result (λ r. IsTold f.now tri.now.halves start.now.h best.now r.1) }
 {
-    let numbering = number_from(tri, start.h, old.numbering)?;
+    let mut numbering = begin(tri, start.h, old.numbering)?;
     let scale = old.coordinates.scale;
     let firsts = distinct.firsts.as_slice();
     let list = pairs_of(f, tri, start, firsts, old.coordinates.list)?;
     let places = distinct.places.as_slice();
-    let told = compared(best, f, tri, start, places, list.as_slice(), &numbering);
+    let told = compared(best, f, tri, start, places, list.as_slice(), &mut numbering)?;
     let coordinates = Coordinates { scale, list };
     Ok((
         Tried {

@@ -17,10 +17,9 @@ returns-then-same_vectors c = λ own d start are.
     let list : List Quad = c.args.list.now in
     let r : List ℤ = c.args.row.now in
     let t : ℕ = c.args.t in
-    let n = c.requires.numbering.1 in
-    let one : c.index-first.result.now ≡ entry places (3 * t) = get_or_read places (3 * t) c.index-first.result.now (omega (arith, n.as_many, c.requires.triangle)) c.index-first.ensures 0 in
-    let two : c.index-second.result.now ≡ entry places (3 * t + 1) = get_or_read places (3 * t + 1) c.index-second.result.now (omega (arith, n.as_many, c.requires.triangle)) c.index-second.ensures 0 in
-    row_from d halves start shown list are c.requires.numbering.0 places numbers n t c.requires.triangle r c.requires.long
+    let one : c.index-first.result.now ≡ entry places (3 * t) = get_or_read places (3 * t) c.index-first.result.now (omega (arith, c.requires.reached)) c.index-first.ensures 0 in
+    let two : c.index-second.result.now ≡ entry places (3 * t + 1) = get_or_read places (3 * t + 1) c.index-second.result.now (omega (arith, c.requires.reached)) c.index-second.ensures 0 in
+    row_from d halves start shown list are c.requires.numbering.0 places numbers c.requires.numbering.1 t c.requires.reached r c.requires.long
     (subst (λ k. 2 * entry shown k + 1 < length list) one (c.same_vectors.ensures.listed c.if-same_vectors.true))
     (subst (λ k. pair_at list (entry shown k) ≡ vector_from r 0) one (c.same_vectors.ensures.same c.if-same_vectors.true))
     (subst (λ k. 2 * entry shown k + 1 < length list) two (c.same_vectors.ensures.listed_too c.if-same_vectors.true))

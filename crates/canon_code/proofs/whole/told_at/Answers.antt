@@ -5,8 +5,8 @@ use Rattle.canon_code.specs.Distinct.{ArePairs, AreListed}
 use Rattle.canon_code.proofs.KeptVectors.{listed_from}
 use Rattle.canon_code.proofs.whole.told_at.Goals as goal
 
-pub compared-told-requires-clause-listed : goal.compared-told-requires-clause-listed
-compared-told-requires-clause-listed c =
+pub compared-requires-clause-listed : goal.compared-requires-clause-listed
+compared-requires-clause-listed c =
     let firsts : List ℕ = c.args.distinct.now.firsts.items in
     let places : List ℕ = c.args.distinct.now.places.items in
     let list : List Quad = c.in_ok-list.list.items in

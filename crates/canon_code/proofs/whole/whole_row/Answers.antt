@@ -4,6 +4,7 @@ use Rattle.std.specs.Int.{w128}
 use Rattle.std.proofs.lemmas.Int.{to_z-of_z}
 use Rattle.quad_field.specs.declared.quad.Quad.{Quad}
 use Rattle.quad_field.specs.Width.{PartsFit}
+use Rattle.canon_code.specs.Numbered.{entry}
 use Rattle.canon_code.specs.WholeFrames.{IsWholeAt}
 use Rattle.canon_code.proofs.whole.whole_row.Goals as goal
 
@@ -16,10 +17,10 @@ returns-in-Some-clause-whole c =
     let y : Quad = c.in-Some.y in
     let z : Quad = c.in-Some.z in
     let w : Quad = c.in-Some.w in
-    let first : IsWholeAt d halves c.args.start.now places (3 * c.args.t) (x, y) =
-    subst (λ (o : Option (Quad × Quad × Quad × Quad)). IfSome o (λ q. IsWholeAt d halves c.args.start.now places (3 * c.args.t) (q.0, q.1))) c.in-Some.is c.in_ok-x.ensures.first in
-    let second : IsWholeAt d halves c.args.start.now places (3 * c.args.t + 1) (z, w) =
-    subst (λ (o : Option (Quad × Quad × Quad × Quad)). IfSome o (λ q. IsWholeAt d halves c.args.start.now places (3 * c.args.t + 1) (q.2, q.3))) c.in-Some.is c.in_ok-x.ensures.second in
+    let first : IsWholeAt d halves c.args.start.now (entry places) (3 * c.args.t) (x, y) =
+    subst (λ (o : Option (Quad × Quad × Quad × Quad)). IfSome o (λ q. IsWholeAt d halves c.args.start.now (entry places) (3 * c.args.t) (q.0, q.1))) c.in-Some.is c.in_ok-x.ensures.first in
+    let second : IsWholeAt d halves c.args.start.now (entry places) (3 * c.args.t + 1) (z, w) =
+    subst (λ (o : Option (Quad × Quad × Quad × Quad)). IfSome o (λ q. IsWholeAt d halves c.args.start.now (entry places) (3 * c.args.t + 1) (q.2, q.3))) c.in-Some.is c.in_ok-x.ensures.second in
     let fits : PartsFit x × PartsFit y × PartsFit z × PartsFit w =
     subst (λ (o : Option (Quad × Quad × Quad × Quad)). IfSome o (λ q. PartsFit q.0 × PartsFit q.1 × PartsFit q.2 × PartsFit q.3)) c.in-Some.is c.in_ok-x.ensures.fits in (
       (x, y),
