@@ -30,4 +30,4 @@ pub mod Carriers
 pub mod CallerLemmas
 pub mod KeptVectors
 pub mod RowsSame
-pub mod Orbits
+pub mod SameSerials

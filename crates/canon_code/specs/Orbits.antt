@@ -27,15 +27,19 @@ LeadBack links = (k : ℕ) → k < length links → entry links k ≤ k
 abbrev pub KeepSerials : ℕ → List Half → List ℕ → Type 0
 KeepSerials d halves links = (k : ℕ) → k < length links → HaveSameSerials d halves k (entry links k)
 
--- the half-edges in the order of the new numbers from a start of the best, and such links
+-- each half-edge has such a link
+pub record AreLinked (d : ℕ) (halves : List Half) (links : List ℕ) : Type 0 where
+  pub as_many : length links ≡ length halves
+  pub back : LeadBack links
+  pub same : KeepSerials d halves links
+
+-- such links, and the half-edges in the order of the new numbers from a start of the best
 pub record AreOrbits (d : ℕ) (halves : List Half) (best : List ℤ) (places links : List ℕ) : Type 0 where
   pub start : ℕ
   pub numbers : List ℕ
   pub numbering : IsNumberedBy halves start places numbers
   pub serial : IsSerial d halves start best
-  pub as_many : length links ≡ length halves
-  pub back : LeadBack links
-  pub same : KeepSerials d halves links
+  pub linked : AreLinked d halves links
 
 -- the best of the first starts, and the orbits that are known
 pub record IsBestOf (d : ℕ) (halves : List Half) (bound : ℕ) (best : Best) : Type 0 where

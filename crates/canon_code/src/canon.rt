@@ -6,7 +6,7 @@ ghost use Rattle.tri_core.specs.Images.{IsImageBy, CarriesFrame};
 ghost use Rattle.canon_code.specs.Codes.{IsCode, AreStarts, IsStart};
 ghost use Rattle.canon_code.specs.Canonical.{canonical, frame, ThirdVectorsFit, IsMade, number_at};
 ghost use Rattle.canon_code.specs.Numbered.{IsNumberedBy};
-ghost use Rattle.canon_code.specs.Orbits.{IsBestOf};
+ghost use Rattle.canon_code.specs.Orbits.{AreLinked, AreOrbits, IsBestOf};
 ghost use Rattle.canon_code.specs.Serials.{IsSerial};
 ghost use Rattle.canon_code.specs.Tries.{IsTried, tried_serial};
 ghost use Rattle.canon_code.specs.FrameWidth.{FrameFits, HasWideFrame};
@@ -55,10 +55,10 @@ fn only(f: &Field, tri: &Tri, tried: &Tried, h: u32, old: Best) -> Result<Best, 
     requires field { f.now ≡ tri.now.field }
     requires half { h < length tri.now.halves }
     requires tried { IsTried f.now tri.now.halves h tried.now }
+    requires linked { AreLinked f.now tri.now.halves old.orbits.links.items }
     ensures serial { IfOk result (λ b. b.serial.items ≡ tried_serial tri.now.halves tried.now) }
     ensures starts { IfOk result (λ b. b.starts.items ≡ h ∷ []) }
-    ensures places { IfOk result (λ b. b.orbits.places.items ≡ tried.now.numbering.places.items) }
-    ensures links { IfOk result (λ b. b.orbits.links.items ≡ old.orbits.links.items) }
+    ensures orbits { IfOk result (λ b. AreOrbits f.now tri.now.halves b.serial.items b.orbits.places.items b.orbits.links.items) }
     ensures thirds { IfOk result (λ b. ThirdVectorsFit f.now b.serial.items) }
 {
     let serial = serial_of(f, tri, tried, old.serial)?;

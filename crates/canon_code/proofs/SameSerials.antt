@@ -1,12 +1,15 @@
 -- Half-edges that have the same serials: those at the same places of the numberings from two starts of one serial.
-use Rattle.std.proofs.Common.{◌≡◌, ℕ, ◌+◌, ◌<◌, ◌≤◌, List, ◌∷◌, [], ◌++◌, length, get_or, refl, sym, ap, ◌∙◌, subst, inl, inr, arith}
+use Rattle.std.proofs.Common.{◌≡◌, ℕ, ◌+◌, ◌<◌, ◌≤◌, List, ◌∷◌, [], ◌++◌, length, get_or, refl, sym, ap, ◌∙◌, subst, inl, inr, Ok, Err, arith}
 use Rattle.std.specs.Prelude.{ℤ, slice_set}
 use Rattle.std.proofs.lemmas.List.{get_or-set_same, get_or-set_other, length-set}
 use Rattle.std.specs.Ordering.{int_cmp}
 use Rattle.std.specs.Cmp.Lexicographic.{slice_cmp}
 use Rattle.std.specs.declared.cmp.Ordering.{Ordering}
 use Rattle.std.specs.declared.cmp.Ordering.TheVariants.{Less, Equal, Greater}
-use Rattle.std.proofs.lemmas.Bool.{cases_eq}
+use Rattle.std.specs.Ordering.{nat_cmp}
+use Rattle.std.specs.List.Sorted.{IsBinarySearchResult}
+use Rattle.std.proofs.lemmas.List.Sorted.{searched}
+use Rattle.std.proofs.lemmas.Bool.{cases_eq, cases_lt}
 use Rattle.quad_field.specs.FieldNumber.{IsFieldNumber}
 use Rattle.tri_core.specs.declared.half.Half.{Half}
 use Rattle.tri_core.specs.Triangulation.{IsTriangulation}
@@ -15,7 +18,7 @@ use Rattle.canon_code.specs.Codes.{IsBefore}
 use Rattle.canon_code.specs.Canonical.{canonical, frame}
 use Rattle.canon_code.specs.Numbered.{entry, IsNumberedBy}
 use Rattle.canon_code.specs.Least.{IsLeastTo}
-use Rattle.canon_code.specs.Orbits.{HaveSameSerials, AreAlike, LeadBack, KeepSerials}
+use Rattle.canon_code.specs.Orbits.{HaveSameSerials, AreAlike, AreBelow, LeadBack, KeepSerials, AreLinked, AreOrbits}
 use Rattle.canon_code.proofs.Numberings.{one_place}
 use Rattle.canon_code.proofs.Serials.{twins_inside, serial_carried, serial_carried_back}
 use Rattle.canon_code.proofs.Canonical.{as_many, canonical_valid, framed}
@@ -29,6 +32,17 @@ alike_back d halves h k a = record { forth = a.back; back = a.forth }
 
 pub alike_on : (d : ℕ) (halves : List Half) (h k j : ℕ) → HaveSameSerials d halves h k → HaveSameSerials d halves k j → HaveSameSerials d halves h j
 alike_on d halves h k j a b = record { forth = λ serial s. b.forth serial (a.forth serial s); back = λ serial s. a.back serial (b.back serial s) }
+
+pub ends_alike : (d : ℕ) (halves : List Half) (h k g j : ℕ) → HaveSameSerials d halves h k → HaveSameSerials d halves h g → HaveSameSerials d halves k j → HaveSameSerials d halves g j
+ends_alike d halves h k g j a b e = alike_on d halves g h j (alike_back d halves h g b) (alike_on d halves h k j a e)
+
+-- half-edges that are linked to themselves
+pub alone_linked : (d : ℕ) (halves : List Half) (links : List ℕ) → length links ≡ length halves → ((k : ℕ) → k < length halves → entry links k ≡ k) → AreLinked d halves links
+alone_linked d halves links count alone = record {
+  as_many = count;
+  back = λ k less. omega (arith, alone k (subst (λ n. k < n) count less));
+  same = λ k less. subst (HaveSameSerials d halves k) (sym (alone k (subst (λ n. k < n) count less))) (alike_itself d halves k);
+}
 
 -- one link to a half-edge that isn't after it
 pub leads_back : (links : List ℕ) (i x : ℕ) → i < length links → x ≤ i → LeadBack links → LeadBack (slice_set links i x)
@@ -97,3 +111,39 @@ module _ (d : ℕ) (field : IsFieldNumber d) (halves : List Half) (valid : IsTri
           let w = l.all h below (subst (IsSerial d halves h) (sym (equal_from_tie best serial e)) s) in
           absurd (none w.0 w.1 w.2)
       go Greater e = absurd (l.least h serial below s (before_from_greater best serial e))
+
+  -- what a start of the best asks for to be joined
+  pub places_below : (places links : List ℕ) → AreOrbits d halves best places links → AreBelow (length links) places
+  places_below places links o i less = subst (λ n. entry places i < n) (sym o.linked.as_many) (places_inside o.start places o.numbers o.numbering i less)
+
+  -- links after a start of the best is joined
+  pub orbits_joined : (places links later order : List ℕ) → AreOrbits d halves best places links → (h : ℕ) (numbers : List ℕ) → IsNumberedBy halves h order numbers → IsSerial d halves h best
+      → length later ≡ length links → LeadBack later → (AreAlike d halves places order → KeepSerials d halves links → KeepSerials d halves later) → AreOrbits d halves best places later
+  orbits_joined places links later order o h numbers numbering own count back keep = record {
+    start = o.start;
+    numbers = o.numbers;
+    numbering = o.numbering;
+    serial = o.serial;
+    linked = record {
+      as_many = count ∙ o.linked.as_many;
+      back = back;
+      same = keep (numberings_alike o.start h places o.numbers order numbers o.serial own o.numbering numbering) o.linked.same;
+    };
+  }
+
+  -- what a search among the starts found
+  module _ (bound : ℕ) (starts : List ℕ) (h : ℕ) (l : IsLeastTo d halves bound best starts) where
+    rising : (i j : ℕ) → i ≤ j → j < length starts → get_or starts i 0 ≤ get_or starts j 0
+    rising i j below inside = elim (cases_eq i j) [
+      | inl e ↦ omega (arith, ap (λ k. get_or starts k 0) e)
+      | inr ne ↦ omega (arith, l.ascending i j (omega arith) inside)
+    ]
+
+    pub start_found : (place : ℕ) → IsBinarySearchResult (λ y. nat_cmp y h) starts (Ok place) → IsSerial d halves h best
+    start_found place found = let w = searched starts h (Ok place) found rising in subst (λ k. IsSerial d halves k best) w.1 (l.each place w.0)
+
+    pub start_missing : (place : ℕ) → IsBinarySearchResult (λ y. nat_cmp y h) starts (Err place) → (i : ℕ) → i < length starts → ¬ (get_or starts i 0 ≡ h)
+    start_missing place found i inside same = let w = searched starts h (Err place) found rising in elim (cases_lt i place) [
+      | inl less ↦ omega (arith, same, w.1 i less)
+      | inr more ↦ omega (arith, same, w.2 i (omega arith) inside)
+    ]
