@@ -31,3 +31,4 @@ pub mod CallerLemmas
 pub mod KeptVectors
 pub mod RowsSame
 pub mod RowsCompared
+pub mod SameSerials

@@ -16,3 +16,4 @@ pub mod Tries
 pub mod WholeFrames
 pub mod Small
 pub mod Distinct
+pub mod Orbits

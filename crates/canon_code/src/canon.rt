@@ -4,8 +4,10 @@ ghost use Rattle.std.specs.Prelude.{◌≡◌, ℕ, pos, ◌+◌, ◌<◌, ◌<�
 ghost use Rattle.plane.specs.Matrices.{IsReducedTo, IsInLowestTerms};
 ghost use Rattle.tri_core.specs.Images.{IsImageBy, CarriesFrame};
 ghost use Rattle.canon_code.specs.Codes.{IsCode, AreStarts, IsStart};
-ghost use Rattle.canon_code.specs.Least.{IsBestTo};
 ghost use Rattle.canon_code.specs.Canonical.{canonical, frame, ThirdVectorsFit, IsMade, number_at};
+ghost use Rattle.canon_code.specs.Numbered.{IsNumberedBy};
+ghost use Rattle.canon_code.specs.Orbits.{AreLinked, AreOrbits, IsBestOf};
+ghost use Rattle.canon_code.specs.Serials.{IsSerial};
 ghost use Rattle.canon_code.specs.Tries.{IsTried, tried_serial};
 ghost use Rattle.canon_code.specs.FrameWidth.{FrameFits, HasWideFrame};
 ghost use Rattle.canon_code.specs.Distinct.{AreDistinct};
@@ -15,6 +17,7 @@ ghost use Rattle.canon_code.specs.declared.fault.CanonFault.TheVariants.{Wide};
 use super::coordinates::Coordinates;
 use super::distinct::{Distinct, distinct_of};
 use super::numbering::Numbering;
+use super::orbits::Orbits;
 use super::serial::{Tried, order_of, scale_number, serial_of, tried_at};
 use super::whole::{Told, told_of};
 use super::{CanonFault, Code};
@@ -24,11 +27,12 @@ use std::alloc::{AllocError, Global};
 use std::cmp::Ordering;
 use tri_core::Tri;
 
-/// The least serial that was found, and the starts with this serial, ascending.
+/// The least serial that was found, the starts with this serial, ascending, and the orbits that are known.
 #[derive(Drop)]
 pub struct Best {
     pub serial: Vec<i128>,
     pub starts: Vec<u32>,
+    pub orbits: Orbits,
 }
 
 /// Empty lists with room for a triangulation of so many half-edges.
@@ -49,16 +53,24 @@ fn room(alloc: Global, count: u32) -> Result<(Tried, Vec<i128>), AllocError> {
 /// The start that was tried as the only best one.
 fn only(f: &Field, tri: &Tri, tried: &Tried, h: u32, old: Best) -> Result<Best, AllocError>
     requires field { f.now ≡ tri.now.field }
-    requires tried { (k : ℕ) × (k < length tri.now.halves) × IsTried f.now tri.now.halves k tried.now }
+    requires half { h < length tri.now.halves }
+    requires tried { IsTried f.now tri.now.halves h tried.now }
+    requires linked { AreLinked f.now tri.now.halves old.orbits.links.items }
     ensures serial { IfOk result (λ b. b.serial.items ≡ tried_serial tri.now.halves tried.now) }
     ensures starts { IfOk result (λ b. b.starts.items ≡ h ∷ []) }
+    ensures orbits { IfOk result (λ b. AreOrbits f.now tri.now.halves b.serial.items b.orbits.places.items b.orbits.links.items) }
     ensures thirds { IfOk result (λ b. ThirdVectorsFit f.now b.serial.items) }
 {
     let serial = serial_of(f, tri, tried, old.serial)?;
     let mut starts = old.starts;
     starts.clear();
     starts.push(h)?;
-    Ok(Best { serial, starts })
+    let orbits = old.orbits.ordered(tried.numbering.places.as_slice())?;
+    Ok(Best {
+        serial,
+        starts,
+        orbits,
+    })
 }
 
 /// The better of the best and the start that was tried: a lesser serial is the only best one, and an equal one is another start.
@@ -66,14 +78,14 @@ fn better(f: &Field, tri: &Tri, tried: &Tried, h: u32, best: Best) -> Result<Bes
     requires field { f.now ≡ tri.now.field }
     requires half { h < length tri.now.halves }
     requires tried { IsTried f.now tri.now.halves h tried.now }
-    requires best { IsBestTo f.now tri.now.halves h best.serial.items best.starts.items }
-    ensures { IfOk result (λ b. IsBestTo f.now tri.now.halves (h + 1) b.serial.items b.starts.items) }
+    requires best { IsBestOf f.now tri.now.halves h best }
+    ensures { IfOk result (λ b. IsBestOf f.now tri.now.halves (h + 1) b) }
 {
     let _number = f.number();
     let _count = tri.triangles();
     match order_of(best.serial.as_slice(), tri, tried) {
         Ordering::Less => only(f, tri, tried, h, best),
-        Ordering::Equal => with_start(best, h),
+        Ordering::Equal => with_image(f, tri, &tried.numbering, h, best),
         Ordering::Greater => Ok(best),
     }
 }
@@ -82,12 +94,40 @@ fn better(f: &Field, tri: &Tri, tried: &Tried, h: u32, best: Best) -> Result<Bes
 fn with_start(best: Best, h: u32) -> Result<Best, AllocError>
     ensures serial { IfOk result (λ b. b.serial.items ≡ best.serial.items) }
     ensures starts { IfOk result (λ b. b.starts.items ≡ best.starts.items ++ h ∷ []) }
+    ensures orbits { IfOk result (λ b. b.orbits ≡ best.orbits) }
 {
     let mut starts = best.starts;
     starts.push(h)?;
     Ok(Best {
         serial: best.serial,
         starts,
+        orbits: best.orbits,
+    })
+}
+
+/// The best with one more start, whose numbering is known: so is the symmetry that takes the best start to it.
+fn with_image(
+    f: &Field,
+    tri: &Tri,
+    numbering: &Numbering,
+    h: u32,
+    best: Best,
+) -> Result<Best, AllocError>
+    requires field { f.now ≡ tri.now.field }
+    requires half { h < length tri.now.halves }
+    requires numbering { IsNumberedBy tri.now.halves h numbering.now.places.items numbering.now.numbers.items }
+    requires serial { IsSerial f.now tri.now.halves h best.serial.items }
+    requires best { IsBestOf f.now tri.now.halves h best }
+    ensures { IfOk result (λ b. IsBestOf f.now tri.now.halves (h + 1) b) }
+{
+    let _number = f.number();
+    let _count = tri.triangles();
+    let more = with_start(best, h)?;
+    let orbits = more.orbits.joined(numbering.places.as_slice());
+    Ok(Best {
+        serial: more.serial,
+        starts: more.starts,
+        orbits,
     })
 }
 
@@ -101,8 +141,8 @@ fn tried_whole(
 ) -> Result<(Tried, Best), CanonFault>
     requires field { f.now ≡ tri.now.field }
     requires half { h < length tri.now.halves }
-    requires best { IsBestTo f.now tri.now.halves h best.serial.items best.starts.items }
-    ensures best { IfOk result (λ r. IsBestTo f.now tri.now.halves (h + 1) r.1.serial.items r.1.starts.items) }
+    requires best { IsBestOf f.now tri.now.halves h best }
+    ensures best { IfOk result (λ r. IsBestOf f.now tri.now.halves (h + 1) r.1) }
     ensures wide { IfErr result (λ fault. fault ≡ Wide → ¬ (FrameFits f.now tri.now.halves h)) }
 {
     let tried = match tried_at(f, tri, h, old) {
@@ -113,7 +153,36 @@ fn tried_whole(
     Ok((tried, best))
 }
 
-/// The better of the best and start h, which is tried in the lists of an earlier start.
+/// The better of the best and start h, which is compared in the lists of an earlier start.
+fn compared(
+    f: &Field,
+    tri: &Tri,
+    distinct: &Distinct,
+    h: u32,
+    old: Tried,
+    best: Best,
+) -> Result<(Tried, Best), CanonFault>
+    requires field { f.now ≡ tri.now.field }
+    requires distinct { AreDistinct tri.now.halves distinct.now.firsts.items distinct.now.places.items }
+    requires half { h < length tri.now.halves }
+    requires best { IsBestOf f.now tri.now.halves h best }
+    ensures best { IfOk result (λ r. IsBestOf f.now tri.now.halves (h + 1) r.1) }
+    ensures wide { IfErr result (λ fault. fault ≡ Wide → ¬ (FrameFits f.now tri.now.halves h)) }
+{
+    let _number = f.number();
+    let _count = tri.triangles();
+    let (tried, answer) = told_of(f, tri, distinct, h, old, best.serial.as_slice())?;
+    match answer {
+        Told::After => Ok((tried, best)),
+        Told::Same => {
+            let best = with_image(f, tri, &tried.numbering, h, best)?;
+            Ok((tried, best))
+        }
+        Told::Open => tried_whole(f, tri, h, tried, best),
+    }
+}
+
+/// The better of the best and start h: where an earlier start is of its orbit, it is a start of the best exactly where that one is.
 fn next(
     f: &Field,
     tri: &Tri,
@@ -125,20 +194,22 @@ fn next(
     requires field { f.now ≡ tri.now.field }
     requires distinct { AreDistinct tri.now.halves distinct.now.firsts.items distinct.now.places.items }
     requires half { h < length tri.now.halves }
-    requires best { IsBestTo f.now tri.now.halves h best.serial.items best.starts.items }
-    ensures best { IfOk result (λ r. IsBestTo f.now tri.now.halves (h + 1) r.1.serial.items r.1.starts.items) }
+    requires best { IsBestOf f.now tri.now.halves h best }
+    ensures best { IfOk result (λ r. IsBestOf f.now tri.now.halves (h + 1) r.1) }
     ensures wide { IfErr result (λ fault. fault ≡ Wide → ¬ (FrameFits f.now tri.now.halves h)) }
 {
     let _number = f.number();
     let _count = tri.triangles();
-    let (tried, answer) = told_of(f, tri, distinct, h, old, best.serial.as_slice())?;
-    match answer {
-        Told::After => Ok((tried, best)),
-        Told::Same => {
+    let first = best.orbits.links[h as usize];
+    if first == h {
+        return compared(f, tri, distinct, h, old, best);
+    }
+    match best.starts.as_slice().binary_search(&first) {
+        Ok(_place) => {
             let best = with_start(best, h)?;
-            Ok((tried, best))
+            Ok((old, best))
         }
-        Told::Open => tried_whole(f, tri, h, tried, best),
+        Err(_place) => Ok((old, best)),
     }
 }
 
@@ -159,7 +230,13 @@ pub fn best_of(alloc: Global, f: &Field, tri: &Tri) -> Result<Best, CanonFault>
         Err(fault) => return Err(fault),
     };
     let starts = Vec::with_capacity(alloc, count as usize)?;
-    let mut best = only(f, tri, &tried, 0, Best { serial, starts })?;
+    let orbits = Orbits::alone(alloc, count)?;
+    let none = Best {
+        serial,
+        starts,
+        orbits,
+    };
+    let mut best = only(f, tri, &tried, 0, none)?;
     for h in 1..count {
         (tried, best) = match next(f, tri, &distinct, h, tried, best) {
             Ok(both) => both,

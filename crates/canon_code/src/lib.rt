@@ -10,6 +10,7 @@ mod fault;
 pub mod laws;
 mod number_list;
 mod numbering;
+mod orbits;
 mod reader;
 mod same_rows;
 mod serial;

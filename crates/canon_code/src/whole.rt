@@ -10,7 +10,8 @@ ghost use Rattle.tri_core.specs.declared.half.Half.{Half};
 ghost use Rattle.tri_core.specs.HalfEdges.{vector_at};
 ghost use Rattle.tri_core.specs.Triangulation.{IsTriangulation};
 ghost use Rattle.canon_code.specs.Canonical.{number_at};
-ghost use Rattle.canon_code.specs.Numbered.{entry, IsListSearch, IsUnderWay};
+ghost use Rattle.canon_code.specs.Numbered.{entry, IsListSearch, IsNumberedBy, IsUnderWay};
+ghost use Rattle.canon_code.specs.declared.whole.Told.TheVariants.{Same};
 ghost use Rattle.canon_code.specs.Small.{IsSmallFrame};
 ghost use Rattle.canon_code.specs.Distinct.{AreInside, AreDistinct, ArePairs, AreListed};
 ghost use Rattle.canon_code.specs.WholeFrames.{IsFrameOf, IsDivisorOf, IsScaledBy, IsWhole, IsNotWhole, IsWholeAt, IsWholeRow, HasNoWhole, IsTold};
@@ -334,7 +335,8 @@ fn compared(
     requires numbering { IsUnderWay tri.now.halves start.now.h numbering.old.places.items numbering.old.numbers.items 0 }
     requires long { length best.now ≡ 2 + 11 * (length tri.now.halves / 3) }
     requires first { number_at best.now 0 ≡ pos (length tri.now.halves / 3) }
-    ensures { IfOk result (IsTold f.now tri.now.halves start.now.h best.now) }
+    ensures told { IfOk result (IsTold f.now tri.now.halves start.now.h best.now) }
+    ensures numbered { IfOk result (λ told. told ≡ Same → IsNumberedBy tri.now.halves start.now.h numbering.new.places.items numbering.new.numbers.items) }
 {
     let _number = f.number();
     let count = tri.triangles();
@@ -377,7 +379,8 @@ fn told_at(
     requires small { IfSome start.now.small (IsSmallFrame f.now start.now.frame start.now.divisor) }
     requires long { length best.now ≡ 2 + 11 * (length tri.now.halves / 3) }
     requires first { number_at best.now 0 ≡ pos (length tri.now.halves / 3) }
-    ensures { IfOk result (λ r. IsTold f.now tri.now.halves start.now.h best.now r.1) }
+    ensures told { IfOk result (λ r. IsTold f.now tri.now.halves start.now.h best.now r.1) }
+    ensures numbered { IfOk result (λ r. r.1 ≡ Same → IsNumberedBy tri.now.halves start.now.h r.0.numbering.places.items r.0.numbering.numbers.items) }
 {
     let mut numbering = begin(tri, start.h, old.numbering)?;
     let scale = old.coordinates.scale;
@@ -410,7 +413,8 @@ pub fn told_of(
     requires long { length best.now ≡ 2 + 11 * (length tri.now.halves / 3) }
     requires first { number_at best.now 0 ≡ pos (length tri.now.halves / 3) }
     requires scale { pos 0 <ℤ number_at best.now 1 }
-    ensures { IfOk result (λ r. IsTold f.now tri.now.halves h best.now r.1) }
+    ensures told { IfOk result (λ r. IsTold f.now tri.now.halves h best.now r.1) }
+    ensures numbered { IfOk result (λ r. r.1 ≡ Same → IsNumberedBy tri.now.halves h r.0.numbering.places.items r.0.numbering.numbers.items) }
 {
     let _count = tri.triangles();
     let Some(frame) = positive_frame(f, tri, h) else {

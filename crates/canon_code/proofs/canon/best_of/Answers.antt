@@ -8,6 +8,7 @@ use Rattle.canon_code.specs.Least.{IsLeastTo, IsBestTo}
 use Rattle.canon_code.specs.Tries.{tried_serial}
 use Rattle.canon_code.proofs.Listed.{serial_is}
 use Rattle.canon_code.proofs.Least.{least_first, code_is, starts_are}
+use Rattle.canon_code.proofs.SameSerials.{alone_linked}
 use Rattle.canon_code.proofs.canon.best_of.Goals as goal
 
 pub loop-h-init : goal.loop-h-init
@@ -20,11 +21,21 @@ loop-h-init c =
     let serial : List ℤ = tried_serial halves tried in
     let own : IsSerial d halves 0 serial =
     serial_is d halves 0 (unsigned_abs tried.coordinates.scale) tried.numbering.places.items tried.numbering.numbers.items tried.coordinates.list.items c.in-Ok.ensures.tried.numbering c.in-Ok.ensures.tried.coordinates in
-    subst₂ (λ (s : List ℤ) (l : List ℕ). IsBestTo d halves 1 s l) (sym c.in_ok-best.ensures.serial) (sym c.in_ok-best.ensures.starts)
-    (record {
-      best = least_first d field halves valid 0 serial refl (omega (arith, valid.count.1)) own;
-      thirds = subst (ThirdVectorsFit d) c.in_ok-best.ensures.serial c.in_ok-best.ensures.thirds;
-    })
+    record {
+      least = subst₂ (λ (s : List ℤ) (l : List ℕ). IsBestTo d halves 1 s l) (sym c.in_ok-best.ensures.serial) (sym c.in_ok-best.ensures.starts)
+          (record {
+            best = least_first d field halves valid 0 serial refl (omega (arith, valid.count.1)) own;
+            thirds = subst (ThirdVectorsFit d) c.in_ok-best.ensures.serial c.in_ok-best.ensures.thirds;
+          });
+      orbits = c.in_ok-best.ensures.orbits;
+    }
+
+pub only-requires-clause-linked : goal.only-requires-clause-linked
+only-requires-clause-linked c =
+    let halves = c.args.tri.now.halves in
+    let links : List ℕ = c.in_ok-orbits.orbits.links.items in
+    let count : length links ≡ length halves = omega (arith, c.in_ok-orbits.ensures.as_many, c.triangles-count.ensures.count) in
+    alone_linked c.args.f.now halves links count (λ k less. c.in_ok-orbits.ensures.alone k (omega (arith, less, count, c.in_ok-orbits.ensures.as_many)))
 
 pub returns-clause-code : goal.returns-clause-code
 returns-clause-code c =
@@ -34,7 +45,7 @@ returns-clause-code c =
     let field = c.number-number.ensures.valid in
     let all : c.loop-h.h ≡ length halves = omega (arith, valid.count.1) in
     code_is d field halves valid c.loop-h.best.serial.items c.loop-h.best.starts.items
-    (subst (λ n. IsLeastTo d halves n c.loop-h.best.serial.items c.loop-h.best.starts.items) all c.loop-h.invariant.best)
+    (subst (λ n. IsLeastTo d halves n c.loop-h.best.serial.items c.loop-h.best.starts.items) all c.loop-h.invariant.least.best)
 
 pub returns-clause-starts : goal.returns-clause-starts
 returns-clause-starts c =
@@ -44,4 +55,4 @@ returns-clause-starts c =
     let field = c.number-number.ensures.valid in
     let all : c.loop-h.h ≡ length halves = omega (arith, valid.count.1) in
     starts_are d field halves valid c.loop-h.best.serial.items c.loop-h.best.starts.items
-    (subst (λ n. IsLeastTo d halves n c.loop-h.best.serial.items c.loop-h.best.starts.items) all c.loop-h.invariant.best)
+    (subst (λ n. IsLeastTo d halves n c.loop-h.best.serial.items c.loop-h.best.starts.items) all c.loop-h.invariant.least.best)

@@ -1,4 +1,4 @@
-use Rattle.std.proofs.Common.{◌≡◌, ◌+◌, ◌*◌, ◌∙◌, List, ℕ, subst, arith}
+use Rattle.std.proofs.Common.{◌≡◌, ◌+◌, ◌*◌, ◌∙◌, subst, arith}
 use Rattle.canon_code.specs.Numbered.{IsListSearch}
 use Rattle.canon_code.proofs.NumberLists.{one_more, under_way_on}
 use Rattle.canon_code.proofs.Results.{on_ok_two}

@@ -13,8 +13,8 @@ use Rattle.canon_code.proofs.whole.told_of.Goals as goal
 pub scale_number-scale-requires : goal.scale_number-scale-requires
 scale_number-scale-requires c = omega (arith, c.requires.long)
 
-pub returns-in-Greater : goal.returns-in-Greater
-returns-in-Greater c = λ serial s.
+pub returns-in-Greater-clause-told : goal.returns-in-Greater-clause-told
+returns-in-Greater-clause-told c = λ serial s.
     let norm : ℤ = c.in-Some.frame.norm in
     let g : ℤ = c.divisor_of-divisor.result in
     let q : ℤ = c.quotient.result in
