@@ -18,3 +18,6 @@ pub use ended::Ended;
 pub use halt::{Halt, HaltNote};
 pub use hands::Hands;
 pub use workers::work;
+
+#[cfg(test)]
+mod tests;
