@@ -32,3 +32,4 @@ pub mod KeptVectors
 pub mod RowsSame
 pub mod RowsCompared
 pub mod SameSerials
+pub mod KeptFrames

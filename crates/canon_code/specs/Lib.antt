@@ -17,3 +17,4 @@ pub mod WholeFrames
 pub mod Small
 pub mod Distinct
 pub mod Orbits
+pub mod KeptFrames

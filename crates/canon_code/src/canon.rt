@@ -1,6 +1,6 @@
 //! The code of a triangulation, with its starts.
 
-ghost use Rattle.std.specs.Prelude.{◌≡◌, ℕ, pos, ◌+◌, ◌<◌, ◌<ℤ◌, ◌∷◌, [], length, slice_get, Some, IfOk, IfErr, ℤ, ◌≤◌, ◌++◌};
+ghost use Rattle.std.specs.Prelude.{◌≡◌, ℕ, pos, ◌+◌, ◌<◌, ◌<ℤ◌, ◌∷◌, [], length, slice_get, Some, IfOk, OnOk, IfErr, ℤ, ◌≤◌, ◌++◌};
 ghost use Rattle.plane.specs.Matrices.{IsReducedTo, IsInLowestTerms};
 ghost use Rattle.tri_core.specs.Images.{IsImageBy, CarriesFrame};
 ghost use Rattle.canon_code.specs.Codes.{IsCode, AreStarts, IsStart};
@@ -11,11 +11,13 @@ ghost use Rattle.canon_code.specs.Serials.{IsSerial};
 ghost use Rattle.canon_code.specs.Tries.{IsTried, tried_serial};
 ghost use Rattle.canon_code.specs.FrameWidth.{FrameFits, HasWideFrame};
 ghost use Rattle.canon_code.specs.Distinct.{AreDistinct};
+ghost use Rattle.canon_code.specs.KeptFrames.{AreKeptFrames};
 ghost use Rattle.std.specs.declared.cmp.Ordering.TheVariants.{Less, Equal, Greater};
 ghost use Rattle.canon_code.specs.declared.fault.CanonFault.TheVariants.{Wide};
 
 use super::coordinates::Coordinates;
 use super::distinct::{Distinct, distinct_of};
+use super::kept_frames::KeptFrames;
 use super::numbering::Numbering;
 use super::orbits::Orbits;
 use super::serial::{Tried, order_of, scale_number, serial_of, tried_at};
@@ -135,17 +137,19 @@ fn with_image(
 fn tried_whole(
     f: &Field,
     tri: &Tri,
+    distinct: &Distinct,
     h: u32,
     old: Tried,
     best: Best,
 ) -> Result<(Tried, Best), CanonFault>
     requires field { f.now ≡ tri.now.field }
+    requires distinct { AreDistinct tri.now.halves distinct.now.firsts.items distinct.now.places.items }
     requires half { h < length tri.now.halves }
     requires best { IsBestOf f.now tri.now.halves h best }
     ensures best { IfOk result (λ r. IsBestOf f.now tri.now.halves (h + 1) r.1) }
     ensures wide { IfErr result (λ fault. fault ≡ Wide → ¬ (FrameFits f.now tri.now.halves h)) }
 {
-    let tried = match tried_at(f, tri, h, old) {
+    let tried = match tried_at(f, tri, distinct, h, old) {
         Ok(tried) => tried,
         Err(fault) => return Err(fault),
     };
@@ -155,54 +159,58 @@ fn tried_whole(
 
 /// The better of the best and start h, which is compared in the lists of an earlier start.
 fn compared(
+    alloc: Global,
     f: &Field,
     tri: &Tri,
-    distinct: &Distinct,
+    kept: &mut KeptFrames,
     h: u32,
     old: Tried,
     best: Best,
 ) -> Result<(Tried, Best), CanonFault>
     requires field { f.now ≡ tri.now.field }
-    requires distinct { AreDistinct tri.now.halves distinct.now.firsts.items distinct.now.places.items }
+    requires kept { AreKeptFrames f.now tri.now.halves kept.old }
     requires half { h < length tri.now.halves }
     requires best { IsBestOf f.now tri.now.halves h best }
     ensures best { IfOk result (λ r. IsBestOf f.now tri.now.halves (h + 1) r.1) }
+    ensures kept { OnOk result (AreKeptFrames f.now tri.now.halves kept.new) }
     ensures wide { IfErr result (λ fault. fault ≡ Wide → ¬ (FrameFits f.now tri.now.halves h)) }
 {
     let _number = f.number();
     let _count = tri.triangles();
-    let (tried, answer) = told_of(f, tri, distinct, h, old, best.serial.as_slice())?;
+    let (tried, answer) = told_of(alloc, f, tri, kept, h, old, best.serial.as_slice())?;
     match answer {
         Told::After => Ok((tried, best)),
         Told::Same => {
             let best = with_image(f, tri, &tried.numbering, h, best)?;
             Ok((tried, best))
         }
-        Told::Open => tried_whole(f, tri, h, tried, best),
+        Told::Open => tried_whole(f, tri, &kept.distinct, h, tried, best),
     }
 }
 
 /// The better of the best and start h: where an earlier start is of its orbit, it is a start of the best exactly where that one is.
 fn next(
+    alloc: Global,
     f: &Field,
     tri: &Tri,
-    distinct: &Distinct,
+    kept: &mut KeptFrames,
     h: u32,
     old: Tried,
     best: Best,
 ) -> Result<(Tried, Best), CanonFault>
     requires field { f.now ≡ tri.now.field }
-    requires distinct { AreDistinct tri.now.halves distinct.now.firsts.items distinct.now.places.items }
+    requires kept { AreKeptFrames f.now tri.now.halves kept.old }
     requires half { h < length tri.now.halves }
     requires best { IsBestOf f.now tri.now.halves h best }
     ensures best { IfOk result (λ r. IsBestOf f.now tri.now.halves (h + 1) r.1) }
+    ensures kept { OnOk result (AreKeptFrames f.now tri.now.halves kept.new) }
     ensures wide { IfErr result (λ fault. fault ≡ Wide → ¬ (FrameFits f.now tri.now.halves h)) }
 {
     let _number = f.number();
     let _count = tri.triangles();
     let first = best.orbits.links[h as usize];
     if first == h {
-        return compared(f, tri, distinct, h, old, best);
+        return compared(alloc, f, tri, kept, h, old, best);
     }
     match best.starts.as_slice().binary_search(&first) {
         Ok(_place) => {
@@ -225,7 +233,7 @@ pub fn best_of(alloc: Global, f: &Field, tri: &Tri) -> Result<Best, CanonFault>
     let count = 3 * tri.triangles();
     let distinct = distinct_of(alloc, tri)?;
     let (empty, serial) = room(alloc, count)?;
-    let mut tried = match tried_at(f, tri, 0, empty) {
+    let mut tried = match tried_at(f, tri, &distinct, 0, empty) {
         Ok(tried) => tried,
         Err(fault) => return Err(fault),
     };
@@ -237,8 +245,9 @@ pub fn best_of(alloc: Global, f: &Field, tri: &Tri) -> Result<Best, CanonFault>
         orbits,
     };
     let mut best = only(f, tri, &tried, 0, none)?;
+    let mut kept = KeptFrames::none(alloc, distinct);
     for h in 1..count {
-        (tried, best) = match next(f, tri, &distinct, h, tried, best) {
+        (tried, best) = match next(alloc, f, tri, &mut kept, h, tried, best) {
             Ok(both) => both,
             Err(fault) => return Err(fault),
         };

@@ -34,7 +34,7 @@ pub fn equal(u: &Vec2, v: &Vec2) -> bool
 }
 
 /// Whether half-edge h has the vector of half-edge g.
-fn same_vector(tri: &Tri, h: u32, g: u32) -> bool
+pub fn same_vector(tri: &Tri, h: u32, g: u32) -> bool
     requires first { h < length tri.now.halves }
     requires second { g < length tri.now.halves }
     ensures { IsTrue result → vector_at tri.now.halves h ≡ vector_at tri.now.halves g }
@@ -103,6 +103,22 @@ fn few_of(firsts: Vec<u32>, places: Vec<u32>) -> Distinct
     Distinct {
         firsts: none,
         places,
+    }
+}
+
+/// A half-edge with the vector of half-edge k: the first one, where the different vectors are few, and else k itself.
+#[inline]
+pub fn first_with(tri: &Tri, distinct: &Distinct, k: u32) -> u32
+    requires distinct { AreDistinct tri.now.halves distinct.now.firsts.items distinct.now.places.items }
+    requires half { k < length tri.now.halves }
+    ensures same { vector_at tri.now.halves result ≡ vector_at tri.now.halves k }
+{
+    let _count = tri.triangles();
+    let place = distinct.places[k as usize] as usize;
+    if place < distinct.firsts.len() {
+        distinct.firsts[place]
+    } else {
+        k
     }
 }
 

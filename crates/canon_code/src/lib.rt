@@ -7,6 +7,7 @@ mod code;
 mod coordinates;
 mod distinct;
 mod fault;
+mod kept_frames;
 pub mod laws;
 mod number_list;
 mod numbering;

@@ -1,7 +1,7 @@
 //! What is told of a start without all of its coordinates: that it is after the best, by its scale or by the first number that differs, or that it is
 //! another start of the best.
 
-ghost use Rattle.std.specs.Prelude.{◌≡◌, ℕ, pos, ◌+◌, ◌*◌, ◌/◌, ◌<◌, ◌<ℤ◌, ◌*ℤ◌, List, length, unsigned_abs, IsTrue, IfOk, IfSome, IfNone};
+ghost use Rattle.std.specs.Prelude.{◌≡◌, ℕ, pos, ◌+◌, ◌*◌, ◌/◌, ◌<◌, ◌<ℤ◌, ◌*ℤ◌, List, length, unsigned_abs, IsTrue, IfOk, IfErr, OnOk, IfSome, IfNone};
 ghost use Prim.Native.Nat.{◌∣◌};
 ghost use Rattle.quad_field.specs.Width.{FitsI128, PartsFit};
 ghost use Rattle.quad_field.specs.Content.{DividesParts};
@@ -13,18 +13,20 @@ ghost use Rattle.canon_code.specs.Canonical.{number_at};
 ghost use Rattle.canon_code.specs.Numbered.{entry, IsListSearch, IsNumberedBy, IsUnderWay};
 ghost use Rattle.canon_code.specs.declared.whole.Told.TheVariants.{Same};
 ghost use Rattle.canon_code.specs.Small.{IsSmallFrame};
-ghost use Rattle.canon_code.specs.Distinct.{AreInside, AreDistinct, ArePairs, AreListed};
+ghost use Rattle.canon_code.specs.Distinct.{AreInside, ArePairs, AreListed};
+ghost use Rattle.canon_code.specs.KeptFrames.{AreKeptFrames};
 ghost use Rattle.canon_code.specs.WholeFrames.{IsFrameOf, IsDivisorOf, IsScaledBy, IsWhole, IsNotWhole, IsWholeAt, IsWholeRow, HasNoWhole, IsTold};
 
-use super::coordinates::{Coordinates, Frame, frame_of, push_pair, whole_number, whole_pair};
-use super::distinct::{Distinct, listed_pair};
+use super::coordinates::{Frame, frame_of, push_pair, whole_number, whole_pair};
+use super::distinct::listed_pair;
+use super::kept_frames::KeptFrames;
 use super::numbering::{Numbering, begin, look_around};
 use super::same_rows::{same_row, twin_at};
 use super::serial::{Tried, row_in, scale_number};
 use super::small::{SmallFrame, quick_numbers, small_numbers, small_of, whole_both};
 use plane::Vec2;
 use quad_field::{Field, Quad, TooWide, content};
-use std::alloc::AllocError;
+use std::alloc::{AllocError, Global};
 use std::cmp::Ordering;
 use tri_core::Tri;
 
@@ -46,6 +48,23 @@ pub struct Scaled {
     pub frame: Frame,
     pub divisor: i128,
     pub small: Option<SmallFrame>,
+}
+
+impl Scaled {
+    /// The same for another start with the same two vectors.
+    pub fn moved(self, h: u32) -> Scaled
+        ensures h { result.h ≡ h }
+        ensures frame { result.frame ≡ self.frame }
+        ensures divisor { result.divisor ≡ self.divisor }
+        ensures small { result.small ≡ self.small }
+    {
+        Scaled {
+            h,
+            frame: self.frame,
+            divisor: self.divisor,
+            small: self.small,
+        }
+    }
 }
 
 /// The frame of two vectors with a norm above zero, none where a step is wide.
@@ -163,21 +182,20 @@ fn pair_over(f: &Field, start: &Scaled, v: &Vec2) -> Result<Option<(Quad, Quad)>
     }
 }
 
-/// The numbers over the best scale of the vectors of these half-edges, up to one that has none, in an earlier list.
+/// The numbers over the best scale of the vectors of these half-edges, up to one that has none.
 fn pairs_of(
+    alloc: Global,
     f: &Field,
     tri: &Tri,
     start: &Scaled,
     firsts: &[u32],
-    old: Vec<Quad>,
 ) -> Result<Vec<Quad>, AllocError>
     requires positive { pos 0 <ℤ start.now.divisor }
     requires small { IfSome start.now.small (IsSmallFrame f.now start.now.frame start.now.divisor) }
     requires inside { AreInside tri.now.halves firsts.now }
     ensures { IfOk result (λ list. ArePairs f.now tri.now.halves start.now firsts.now list.items) }
 {
-    let mut list = old;
-    list.clear();
+    let mut list = Vec::new(alloc);
     for i in 0..firsts.len() {
         let first = firsts[i];
         match pair_over(f, start, &tri.half(first).vec) {
@@ -368,70 +386,127 @@ fn compared(
 fn told_at(
     f: &Field,
     tri: &Tri,
-    distinct: &Distinct,
+    places: &[u32],
     start: &Scaled,
+    list: &[Quad],
     old: Tried,
     best: &[i128],
 ) -> Result<(Tried, Told), AllocError>
     requires field { f.now ≡ tri.now.field }
-    requires distinct { AreDistinct tri.now.halves distinct.now.firsts.items distinct.now.places.items }
     requires start { IsScaledBy f.now tri.now.halves (number_at best.now 1) start.now }
     requires small { IfSome start.now.small (IsSmallFrame f.now start.now.frame start.now.divisor) }
+    requires listed { AreListed f.now tri.now.halves start.now places.now list.now }
     requires long { length best.now ≡ 2 + 11 * (length tri.now.halves / 3) }
     requires first { number_at best.now 0 ≡ pos (length tri.now.halves / 3) }
     ensures told { IfOk result (λ r. IsTold f.now tri.now.halves start.now.h best.now r.1) }
     ensures numbered { IfOk result (λ r. r.1 ≡ Same → IsNumberedBy tri.now.halves start.now.h r.0.numbering.places.items r.0.numbering.numbers.items) }
 {
     let mut numbering = begin(tri, start.h, old.numbering)?;
-    let scale = old.coordinates.scale;
-    let firsts = distinct.firsts.as_slice();
-    let list = pairs_of(f, tri, start, firsts, old.coordinates.list)?;
-    let places = distinct.places.as_slice();
-    let told = compared(best, f, tri, start, places, list.as_slice(), &mut numbering)?;
-    let coordinates = Coordinates { scale, list };
-    Ok((
-        Tried {
-            numbering,
-            coordinates,
-        },
-        told,
-    ))
+    let told = compared(best, f, tri, start, places, list, &mut numbering)?;
+    let tried = Tried {
+        numbering,
+        coordinates: old.coordinates,
+    };
+    Ok((tried, told))
 }
 
-/// What is told of start h, in the lists of an earlier one where its scale may be the best one.
-pub fn told_of(
+/// Start h where its scale may be the best one, and else what is told of it.
+fn scaled_of(f: &Field, tri: &Tri, h: u32, best: &[i128]) -> Result<Scaled, Told>
+    requires field { f.now ≡ tri.now.field }
+    requires half { h < length tri.now.halves }
+    requires long { length best.now ≡ 2 + 11 * (length tri.now.halves / 3) }
+    requires first { number_at best.now 0 ≡ pos (length tri.now.halves / 3) }
+    requires scale { pos 0 <ℤ number_at best.now 1 }
+    ensures start { IfOk result (λ start. start.h ≡ h) }
+    ensures scaled { IfOk result (IsScaledBy f.now tri.now.halves (number_at best.now 1)) }
+    ensures small { IfOk result (λ start. IfSome start.small (IsSmallFrame f.now start.frame start.divisor)) }
+    ensures told { IfErr result (IsTold f.now tri.now.halves h best.now) }
+    ensures other { IfErr result (λ told. ¬ (told ≡ Same)) }
+{
+    let _count = tri.triangles();
+    let Some(frame) = positive_frame(f, tri, h) else {
+        return Err(Told::Open);
+    };
+    let scale = scale_number(best);
+    let divisor = divisor_of(f, tri, h, &frame, scale);
+    match quotient(frame.norm, divisor).cmp(&scale) {
+        Ordering::Less => Err(Told::Open),
+        Ordering::Greater => Err(Told::After),
+        Ordering::Equal => {
+            let small = small_of(f, &frame, divisor);
+            Ok(Scaled {
+                h,
+                frame,
+                divisor,
+                small,
+            })
+        }
+    }
+}
+
+/// What is told of start h, whose frame is kept where its scale may be the best one.
+fn told_first(
+    alloc: Global,
     f: &Field,
     tri: &Tri,
-    distinct: &Distinct,
+    kept: &mut KeptFrames,
     h: u32,
     old: Tried,
     best: &[i128],
 ) -> Result<(Tried, Told), AllocError>
     requires field { f.now ≡ tri.now.field }
-    requires distinct { AreDistinct tri.now.halves distinct.now.firsts.items distinct.now.places.items }
+    requires kept { AreKeptFrames f.now tri.now.halves kept.old }
+    requires over { kept.old.scale ≡ number_at best.now 1 }
     requires half { h < length tri.now.halves }
     requires long { length best.now ≡ 2 + 11 * (length tri.now.halves / 3) }
     requires first { number_at best.now 0 ≡ pos (length tri.now.halves / 3) }
     requires scale { pos 0 <ℤ number_at best.now 1 }
     ensures told { IfOk result (λ r. IsTold f.now tri.now.halves h best.now r.1) }
     ensures numbered { IfOk result (λ r. r.1 ≡ Same → IsNumberedBy tri.now.halves h r.0.numbering.places.items r.0.numbering.numbers.items) }
+    ensures kept { OnOk result (AreKeptFrames f.now tri.now.halves kept.new) }
+{
+    match scaled_of(f, tri, h, best) {
+        Ok(start) => {
+            let list = pairs_of(alloc, f, tri, &start, kept.distinct.firsts.as_slice())?;
+            let places = kept.distinct.places.as_slice();
+            let both = told_at(f, tri, places, &start, list.as_slice(), old, best)?;
+            kept.keep(start, list)?;
+            Ok(both)
+        }
+        Err(told) => Ok((old, told)),
+    }
+}
+
+/// What is told of start h, in the lists of an earlier one where its scale may be the best one.
+pub fn told_of(
+    alloc: Global,
+    f: &Field,
+    tri: &Tri,
+    kept: &mut KeptFrames,
+    h: u32,
+    old: Tried,
+    best: &[i128],
+) -> Result<(Tried, Told), AllocError>
+    requires field { f.now ≡ tri.now.field }
+    requires kept { AreKeptFrames f.now tri.now.halves kept.old }
+    requires half { h < length tri.now.halves }
+    requires long { length best.now ≡ 2 + 11 * (length tri.now.halves / 3) }
+    requires first { number_at best.now 0 ≡ pos (length tri.now.halves / 3) }
+    requires scale { pos 0 <ℤ number_at best.now 1 }
+    ensures told { IfOk result (λ r. IsTold f.now tri.now.halves h best.now r.1) }
+    ensures numbered { IfOk result (λ r. r.1 ≡ Same → IsNumberedBy tri.now.halves h r.0.numbering.places.items r.0.numbering.numbers.items) }
+    ensures kept { OnOk result (AreKeptFrames f.now tri.now.halves kept.new) }
 {
     let _count = tri.triangles();
-    let Some(frame) = positive_frame(f, tri, h) else {
-        return Ok((old, Told::Open));
-    };
-    let scale = scale_number(best);
-    let divisor = divisor_of(f, tri, h, &frame, scale);
-    let small = small_of(f, &frame, divisor);
-    let start = Scaled {
-        h,
-        frame,
-        divisor,
-        small,
-    };
-    match quotient(frame.norm, divisor).cmp(&scale) {
-        Ordering::Less => Ok((old, Told::Open)),
-        Ordering::Greater => Ok((old, Told::After)),
-        Ordering::Equal => told_at(f, tri, distinct, &start, old, best),
+    kept.rescale(scale_number(best));
+    match kept.place_of(tri, h) {
+        Some(place) => {
+            let frame = &kept.frames[place];
+            let start = frame.start.moved(h);
+            let places = kept.distinct.places.as_slice();
+            let both = told_at(f, tri, places, &start, frame.list.as_slice(), old, best)?;
+            Ok(both)
+        }
+        None => told_first(alloc, f, tri, kept, h, old, best),
     }
 }

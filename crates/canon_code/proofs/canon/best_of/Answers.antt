@@ -22,12 +22,15 @@ loop-h-init c =
     let own : IsSerial d halves 0 serial =
     serial_is d halves 0 (unsigned_abs tried.coordinates.scale) tried.numbering.places.items tried.numbering.numbers.items tried.coordinates.list.items c.in-Ok.ensures.tried.numbering c.in-Ok.ensures.tried.coordinates in
     record {
-      least = subst₂ (λ (s : List ℤ) (l : List ℕ). IsBestTo d halves 1 s l) (sym c.in_ok-best.ensures.serial) (sym c.in_ok-best.ensures.starts)
-          (record {
-            best = least_first d field halves valid 0 serial refl (omega (arith, valid.count.1)) own;
-            thirds = subst (ThirdVectorsFit d) c.in_ok-best.ensures.serial c.in_ok-best.ensures.thirds;
-          });
-      orbits = c.in_ok-best.ensures.orbits;
+      best = record {
+        least = subst₂ (λ (s : List ℤ) (l : List ℕ). IsBestTo d halves 1 s l) (sym c.in_ok-best.ensures.serial) (sym c.in_ok-best.ensures.starts)
+            (record {
+              best = least_first d field halves valid 0 serial refl (omega (arith, valid.count.1)) own;
+              thirds = subst (ThirdVectorsFit d) c.in_ok-best.ensures.serial c.in_ok-best.ensures.thirds;
+            });
+        orbits = c.in_ok-best.ensures.orbits;
+      };
+      kept = c.none-kept.ensures d halves c.in_ok-distinct.ensures;
     }
 
 pub only-requires-clause-linked : goal.only-requires-clause-linked
@@ -45,7 +48,7 @@ returns-clause-code c =
     let field = c.number-number.ensures.valid in
     let all : c.loop-h.h ≡ length halves = omega (arith, valid.count.1) in
     code_is d field halves valid c.loop-h.best.serial.items c.loop-h.best.starts.items
-    (subst (λ n. IsLeastTo d halves n c.loop-h.best.serial.items c.loop-h.best.starts.items) all c.loop-h.invariant.least.best)
+    (subst (λ n. IsLeastTo d halves n c.loop-h.best.serial.items c.loop-h.best.starts.items) all c.loop-h.invariant.best.least.best)
 
 pub returns-clause-starts : goal.returns-clause-starts
 returns-clause-starts c =
@@ -55,4 +58,4 @@ returns-clause-starts c =
     let field = c.number-number.ensures.valid in
     let all : c.loop-h.h ≡ length halves = omega (arith, valid.count.1) in
     starts_are d field halves valid c.loop-h.best.serial.items c.loop-h.best.starts.items
-    (subst (λ n. IsLeastTo d halves n c.loop-h.best.serial.items c.loop-h.best.starts.items) all c.loop-h.invariant.least.best)
+    (subst (λ n. IsLeastTo d halves n c.loop-h.best.serial.items c.loop-h.best.starts.items) all c.loop-h.invariant.best.least.best)

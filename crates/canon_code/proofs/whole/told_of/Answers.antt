@@ -1,63 +1,56 @@
-use Rattle.std.proofs.Common.{rules, ◌≡◌, sym, ap, ◌∙◌, subst, arith}
+use Rattle.std.proofs.Common.{rules, ◌≡◌, ◌<◌, ℕ, List, length, sym, subst}
 use mathlib.Core.Path.{subst₂}
-use Prim.Native.Nat.{◌∣◌}
-use Rattle.std.specs.Prelude.{ℤ, pos, ◌<ℤ◌, ◌*ℤ◌, unsigned_abs, FitsSigned}
-use Rattle.std.specs.Int.{w128}
-use Rattle.std.specs.declared.cmp.Ordering.TheVariants.{Equal, Greater}
-use Rattle.std.proofs.lemmas.Cmp.{int_ranked}
-use Rattle.std.proofs.lemmas.Int.{ints, to_z-of_z}
+use Rattle.quad_field.specs.declared.quad.Quad.{Quad}
+use Rattle.canon_code.specs.declared.kept_frames.KeptFrame.{KeptFrame}
+use Rattle.canon_code.specs.declared.kept_frames.KeptFrames.{KeptFrames}
 use Rattle.canon_code.specs.Canonical.{number_at}
-use Rattle.canon_code.proofs.WholeFrames.{scale_least, after_scale}
+use Rattle.canon_code.specs.Distinct.{AreListed}
+use Rattle.canon_code.specs.KeptFrames.{HaveOneFrame, IsKeptFrame, AreKeptFrames}
+use Rattle.canon_code.specs.WholeFrames.{IsScaledBy}
+use Rattle.canon_code.proofs.KeptVectors.{listed_from}
+use Rattle.canon_code.proofs.KeptFrames.{kept_at, moved_frame, moved_small, moved_pairs}
 use Rattle.canon_code.proofs.whole.told_of.Goals as goal
 
-pub scale_number-scale-requires : goal.scale_number-scale-requires
-scale_number-scale-requires c = omega (arith, c.requires.long)
+pub place_of-requires-clause-kept : goal.place_of-requires-clause-kept
+place_of-requires-clause-kept c = (c.args.f.now, c.rescale.ensures.kept c.args.f.now c.args.tri.now.halves c.requires.kept)
 
-pub returns-in-Greater-clause-told : goal.returns-in-Greater-clause-told
-returns-in-Greater-clause-told c = λ serial s.
-    let norm : ℤ = c.in-Some.frame.norm in
-    let g : ℤ = c.divisor_of-divisor.result in
-    let q : ℤ = c.quotient.result in
-    let norm_fits : FitsSigned w128 norm = search rules in
-    let g_fits : FitsSigned w128 g = search rules in
-    let q_fits : FitsSigned w128 q = search rules in
-    let read_fits : FitsSigned w128 c.scale_number-scale.result = search rules in
-    let less : number_at c.args.best.now 1 <ℤ q =
-    subst₂ (λ (a b : ℤ). a <ℤ b) (to_z-of_z w128 c.scale_number-scale.result read_fits ∙ c.scale_number-scale.ensures) (to_z-of_z w128 q q_fits)
-    (int_ranked _ _ Greater (sym c.in-Greater.is ∙ c.cmp.ensures)) in
-    let some : pos 0 <ℤ q = let k = c.requires.scale in omega (arith, ints, k, less) in
-    let exact : norm ≡ q *ℤ g = sym (to_z-of_z w128 norm norm_fits) ∙ c.quotient.ensures ∙ ap (λ z. q *ℤ z) (to_z-of_z w128 g g_fits) in
-    after_scale c.args.f.now c.args.tri.now.halves c.args.h norm q g c.divisor_of-divisor.ensures.positive exact c.divisor_of-divisor.ensures.bound
-    c.args.best.now serial (omega (arith, c.requires.long)) c.requires.first some less s
-
-pub quotient-requires-clause-divides : goal.quotient-requires-clause-divides
-quotient-requires-clause-divides c =
-    let norm : ℤ = c.in-Some.frame.norm in
-    let g : ℤ = c.divisor_of-divisor.result in
-    let norm_fits : FitsSigned w128 norm = search rules in
-    let g_fits : FitsSigned w128 g = search rules in
-    subst₂ (λ (a b : ℤ). unsigned_abs a ∣ unsigned_abs b) (sym (to_z-of_z w128 g g_fits)) (sym (to_z-of_z w128 norm norm_fits)) c.divisor_of-divisor.ensures.divides
+pub told_first-requires-clause-kept : goal.told_first-requires-clause-kept
+told_first-requires-clause-kept c = c.rescale.ensures.kept c.args.f.now c.args.tri.now.halves c.requires.kept
 
 pub told_at-requires-clause-start : goal.told_at-requires-clause-start
 told_at-requires-clause-start c =
-    let norm : ℤ = c.in-Some.frame.norm in
-    let g : ℤ = c.divisor_of-divisor.result in
-    let q : ℤ = c.quotient.result in
-    let scale : ℤ = number_at c.args.best.now 1 in
-    let norm_fits : FitsSigned w128 norm = search rules in
-    let g_fits : FitsSigned w128 g = search rules in
-    let q_fits : FitsSigned w128 q = search rules in
-    let read_fits : FitsSigned w128 c.scale_number-scale.result = search rules in
-    let same : q ≡ scale =
-    subst₂ (λ (a b : ℤ). a ≡ b) (to_z-of_z w128 q q_fits) (to_z-of_z w128 c.scale_number-scale.result read_fits ∙ c.scale_number-scale.ensures)
-    (int_ranked _ _ Equal (sym c.in-Equal.is ∙ c.cmp.ensures)) in
-    let exact : norm ≡ scale *ℤ g = sym (to_z-of_z w128 norm norm_fits) ∙ c.quotient.ensures ∙ ap (λ z. q *ℤ z) (to_z-of_z w128 g g_fits) ∙ ap (λ (n : ℤ). n *ℤ g) same in
-    let read : g ≡ _ = sym (to_z-of_z w128 g g_fits) in
-    record {
-      inside = c.requires.half;
-      frame = c.in-Some.ensures.frame;
-      positive = subst (λ z. pos 0 <ℤ z) read c.divisor_of-divisor.ensures.positive;
-      some = c.requires.scale;
-      norm = exact ∙ ap (λ (n : ℤ). scale *ℤ n) read;
-      least = scale_least c.args.f.now c.args.tri.now.halves c.args.h norm scale g c.divisor_of-divisor.ensures.positive exact c.divisor_of-divisor.ensures.bound;
-    }
+    let d : ℕ = c.args.f.now in
+    let halves = c.args.tri.now.halves in
+    let kept : KeptFrames = c.rescale.new.self in
+    let frame : KeptFrame = c.index-frame.result.now in
+    let own : IsKeptFrame d halves kept.distinct.firsts.items kept.scale frame = kept_at d halves kept (c.rescale.ensures.kept d halves c.requires.kept) c.in-Some.place frame c.in-Some.ensures.within c.index-frame.ensures in
+    let found : HaveOneFrame halves frame.start.h c.args.h =
+    subst (λ (k : KeptFrame). HaveOneFrame halves k.start.h c.args.h) (sym c.index-frame.ensures) (c.in-Some.ensures.same frame) in
+    let scale : kept.scale ≡ number_at c.args.best.now 1 = search rules in
+    moved_frame d halves (number_at c.args.best.now 1) frame.start c.moved-start.result (subst (λ m. IsScaledBy d halves m frame.start) scale own.start)
+    (subst (λ h. HaveOneFrame halves frame.start.h h) (sym c.moved-start.ensures.h) found) (subst (λ h. h < length halves) (sym c.moved-start.ensures.h) c.requires.half)
+    c.moved-start.ensures.frame c.moved-start.ensures.divisor
+
+pub told_at-requires-clause-small : goal.told_at-requires-clause-small
+told_at-requires-clause-small c =
+    let d : ℕ = c.args.f.now in
+    let halves = c.args.tri.now.halves in
+    let kept : KeptFrames = c.rescale.new.self in
+    let frame : KeptFrame = c.index-frame.result.now in
+    let own : IsKeptFrame d halves kept.distinct.firsts.items kept.scale frame = kept_at d halves kept (c.rescale.ensures.kept d halves c.requires.kept) c.in-Some.place frame c.in-Some.ensures.within c.index-frame.ensures in
+    moved_small d frame.start c.moved-start.result c.moved-start.ensures.frame c.moved-start.ensures.divisor c.moved-start.ensures.small own.small
+
+pub told_at-requires-clause-listed : goal.told_at-requires-clause-listed
+told_at-requires-clause-listed c =
+    let d : ℕ = c.args.f.now in
+    let halves = c.args.tri.now.halves in
+    let kept : KeptFrames = c.rescale.new.self in
+    let frame : KeptFrame = c.index-frame.result.now in
+    let all : AreKeptFrames d halves kept = c.rescale.ensures.kept d halves c.requires.kept in
+    let own : IsKeptFrame d halves kept.distinct.firsts.items kept.scale frame = kept_at d halves kept all c.in-Some.place frame c.in-Some.ensures.within c.index-frame.ensures in
+    subst₂ (λ (p : List ℕ) (l : List Quad). AreListed d halves c.moved-start.result p l) (sym c.as_slice-places.ensures.value) (sym c.as_slice.ensures.value)
+    (listed_from d halves c.moved-start.result kept.distinct.firsts.items kept.distinct.places.items frame.list.items all.distinct
+    (moved_pairs d halves frame.start c.moved-start.result kept.distinct.firsts.items frame.list.items c.moved-start.ensures.frame c.moved-start.ensures.divisor own.pairs))
+
+pub returns-in_ok-both-in-Some-clause-kept : goal.returns-in_ok-both-in-Some-clause-kept
+returns-in_ok-both-in-Some-clause-kept c = c.rescale.ensures.kept c.args.f.now c.args.tri.now.halves c.requires.kept
