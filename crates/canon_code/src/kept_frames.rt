@@ -1,6 +1,6 @@
 //! Frames that are kept: what is found of one start stands for each other with the same two vectors.
 
-ghost use Rattle.std.specs.Prelude.{◌≡◌, ℕ, pos, ◌<◌, length, List, IsTrue, IfSome, OnOk};
+ghost use Rattle.std.specs.Prelude.{◌≡◌, ℕ, ◌<◌, length, List, IsTrue, IfSome, OnOk};
 ghost use Rattle.std.specs.List.{HoldsAt};
 ghost use Rattle.tri_core.specs.declared.half.Half.{Half};
 ghost use Rattle.canon_code.specs.Distinct.{AreDistinct, ArePairs};
