@@ -12,3 +12,4 @@ mod Unread
 mod Based
 mod Closed
 mod Numbers
+pub mod JoinedTurns

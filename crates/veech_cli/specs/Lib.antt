@@ -9,3 +9,4 @@ pub mod Runs
 pub mod Refusals
 pub mod Surfaces
 pub mod Programs
+pub mod Turns

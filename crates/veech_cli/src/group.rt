@@ -19,6 +19,7 @@ use super::base::base_of_surface;
 use super::plain::{classes_of, report_from, root_of};
 use super::refusal::Refusal;
 use super::surface::surface_of;
+use super::turns::turns_by_workers;
 use canon_code::Code;
 use class_node::ClassTerrain;
 use delaunay_flip::Base;
@@ -75,7 +76,8 @@ fn report_by_workers<R: Threads + Wait + Sync, G: Gate>(
     let terrain = ClassTerrain::make(f);
     let (root, frame) = root_of(alloc, &terrain, base)?;
     let graph = graph_by_workers(rt, alloc, &terrain, base, &root, limit, workers, gate)?;
-    report_from(alloc, &f, &terrain, base, &frame, graph, limit)
+    let turns = turns_by_workers(rt, alloc, &terrain, graph.keys.as_slice(), workers);
+    report_from(alloc, &f, base, &frame, graph, turns, limit)
 }
 
 /// The classes that are reached from a base with this code, with their leads, found by so many workers.

@@ -14,6 +14,7 @@ mod refusal;
 mod region;
 mod surface;
 mod trial;
+mod turns;
 mod workers;
 
 pub use answer_text::{NoCause, Place, Status, status_number};

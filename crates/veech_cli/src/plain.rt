@@ -9,23 +9,23 @@ ghost use Rattle.terrain.specs.Places.{IsAt};
 ghost use Rattle.terrain.specs.Graphs.{IsGraph};
 ghost use Rattle.terrain.specs.Causes.{MoreAreReached, IsStuckWithin};
 ghost use Rattle.canon_code.specs.Codes.{IsCode};
-ghost use Rattle.canon_code.specs.Canonical.{canonical};
 ghost use Rattle.class_node.specs.Classes.{field_numbers, IsClassOver, HasWalls};
-ghost use Rattle.class_node.specs.Leads.{IsFrame, AreFrames, LeadsBy};
+ghost use Rattle.class_node.specs.Leads.{IsFrame, LeadsBy};
 ghost use Rattle.class_node.specs.Stuck.{IsStuck, IsStuckAt};
 ghost use Rattle.class_node.specs.declared.fault.ClassFault.{ClassFault as Fault};
-ghost use Rattle.returning.specs.Turns.{AreTurns};
 ghost use Rattle.answer_text.specs.declared.status.Status.TheVariants.{Done};
 ghost use Rattle.command_words.specs.declared.command.Command.TheVariants.{Plain};
 ghost use Rattle.veech_cli.specs.Classes.{AreClassesWithin};
 ghost use Rattle.veech_cli.specs.Groups.{IsGraphOf, AreMatricesOf};
 ghost use Rattle.veech_cli.specs.Writings.{plain_text};
 ghost use Rattle.veech_cli.specs.Owed.{Owes};
-ghost use Rattle.veech_cli.specs.Surfaces.{IsRefusalOf, RefusesRoot, RefusesClasses, RefusesTurns, RefusesTurnsOf, RefusesMatrices, IsReportOf, RefusesPlain};
+ghost use Rattle.veech_cli.specs.Turns.{AreTurnsFound};
+ghost use Rattle.veech_cli.specs.Surfaces.{IsRefusalOf, RefusesRoot, RefusesClasses, RefusesMatrices, IsReportOf, RefusesPlain};
 
 use super::base::base_of_surface;
 use super::refusal::Refusal;
 use super::surface::surface_of;
+use super::turns::turns_of;
 use answer_text::{Place, Status, summary_text};
 use canon_code::Code;
 use class_node::ClassTerrain;
@@ -82,30 +82,31 @@ pub(crate) fn report_of(alloc: Global, f: Field, base: &Base, limit: u32) -> Res
     let terrain = ClassTerrain::make(f);
     let (root, frame) = root_of(alloc, &terrain, base)?;
     let graph = graph_of(alloc, &terrain, base, &root, limit)?;
-    report_from(alloc, &f, &terrain, base, &frame, graph, limit)
+    let turns = turns_of(alloc, &terrain, graph.keys.as_slice());
+    report_from(alloc, &f, base, &frame, graph, turns, limit)
 }
 
-/// The report of a base with this frame and this graph.
+/// The report of a base with this frame, this graph and these turns of its classes, where they were found.
 pub(crate) fn report_from(
     alloc: Global,
     f: &Field,
-    terrain: &ClassTerrain,
     base: &Base,
     frame: &Mat2,
     graph: Graph<ClassTerrain>,
+    turns: Result<Vec<Vec<Mat2>>, Refusal>,
     limit: u32,
 ) -> Result<Report, Refusal>
     requires field { f.now ≡ base.now.tri.field }
-    requires terrain { terrain.now ≡ base.now.tri.field }
     requires graph { (root : List ℤ) × IsCode base.now.tri.field base.now.tri.halves root × IsFrame base.now.tri.field base.now.tri.halves root frame.now
         × IsGraph (slice_cmp int_cmp) (HasWalls (field_numbers base.now.tri.field)) (LeadsBy (field_numbers base.now.tri.field)) root graph.keys.items (map (λ v. v.items) graph.leads.items) graph.root }
     requires own { (i : ℕ) (code : List ℤ) → IsAt graph.keys.items i code → ∥ IsClassOver base.now.tri.field code ∥₁ }
     requires classes { AreClassesWithin base.now.tri.field base.now.tri.halves limit graph.keys.items }
+    requires turns { AreTurnsFound base.now.tri.field graph.keys.items turns }
     ensures report { IfOk result (λ report. IsReportOf base.now.tri.field limit base.now.point base.now.tri.halves report) }
     ensures refused { IfErr result (λ refusal. RefusesPlain base.now.tri.field base.now.tri.halves limit refusal.status) }
 {
     let field = f.number();
-    let turns = turns_of(alloc, terrain, graph.keys.as_slice())?;
+    let turns = turns?;
     let mats = matrices_of(alloc, f, base, &graph, frame, turns.as_slice(), limit)?;
     Ok(Report {
         field,
@@ -201,47 +202,6 @@ pub(crate) fn classes_of(
             },
         }),
         Err(ExploreFault::Memory) => Err(Refusal {
-            status: Status::Memory,
-        }),
-    }
-}
-
-/// The turns of classes, by classes.
-fn turns_of(
-    alloc: Global,
-    terrain: &ClassTerrain,
-    codes: &[Code],
-) -> Result<Vec<Vec<Mat2>>, Refusal>
-    requires own { (i : ℕ) (code : List ℤ) → IsAt codes.now i code → ∥ IsClassOver terrain.now code ∥₁ }
-    ensures turns { IfOk result (λ turns. AreTurns terrain.now codes.now (map (λ v. v.items) turns.items)) }
-    ensures refused { IfErr result (λ refusal. RefusesTurns terrain.now codes.now refusal.status) }
-{
-    let mut turns = Vec::with_capacity(alloc, codes.len())?;
-    for i in 0..codes.len() {
-        let turns_of_code = turns_of_class(alloc, terrain, &codes[i])?;
-        turns.push(turns_of_code)?;
-    }
-    Ok(turns)
-}
-
-/// The turns of a class.
-fn turns_of_class(alloc: Global, terrain: &ClassTerrain, code: &Code) -> Result<Vec<Mat2>, Refusal>
-    requires { ∥ IsClassOver terrain.now code.now ∥₁ }
-    ensures turns { IfOk result (λ turns. AreFrames terrain.now (canonical terrain.now code.now) code.now turns.items) }
-    ensures refused { IfErr result (λ refusal. RefusesTurnsOf terrain.now code.now refusal.status) }
-{
-    match terrain.turns(alloc, code) {
-        Ok(turns) => Ok(turns),
-        Err(Stop::Fault(fault)) => Err(Refusal {
-            status: Status::TooWide {
-                formula: fault.formula,
-                place: Place::Class {
-                    code: code.copy(alloc)?,
-                    wall: None,
-                },
-            },
-        }),
-        Err(Stop::Memory) => Err(Refusal {
             status: Status::Memory,
         }),
     }

@@ -1,6 +1,9 @@
-use Rattle.std.proofs.Common.{inl, inr, subst}
+use Rattle.std.proofs.Common.{rules, ◌≡◌, ℕ, List, inl, inr, sym, subst}
+use Rattle.std.specs.Prelude.{ℤ}
 use Rattle.std.proofs.lemmas.Result.{err_from_is_err_and}
 use Rattle.quad_field.specs.FieldNumber.{IsFieldNumber}
+use Rattle.terrain.specs.Places.{IsAt}
+use Rattle.class_node.specs.Classes.{IsClassOver}
 use Rattle.veech_cli.proofs.group.report_by_workers.Goals as goal
 
 pub graph_by_workers-requires-clause-number : goal.graph_by_workers-requires-clause-number
@@ -10,3 +13,8 @@ pub returns-in_err-graph-clause-refused : goal.returns-in_err-graph-clause-refus
 returns-in_err-graph-clause-refused g c =
     let p = err_from_is_err_and c.from_residual-in_err-graph.result c.from_residual-in_err-graph.ensures.1 in
     rw (p.1, p.2) (inr (inl c.in_err-graph.ensures.refused))
+
+pub turns_by_workers-turns-requires-clause-own : goal.turns_by_workers-turns-requires-clause-own
+turns_by_workers-turns-requires-clause-own g c lifetimes outlives i code at =
+    let same : c.make-terrain.result ≡ c.args.base.now.tri.field = search rules in
+    subst (λ (d : ℕ). ∥ IsClassOver d code ∥₁) (sym same) (c.in_ok-graph.ensures.own i code (subst (λ (keys : List (List ℤ)). IsAt keys i code) c.as_slice.ensures.value at))
