@@ -1,11 +1,11 @@
 //! The code of a triangulation, with its starts.
 
-ghost use Rattle.std.specs.Prelude.{◌≡◌, ℕ, pos, ◌+◌, ◌<◌, ◌<ℤ◌, ◌∷◌, [], length, slice_get, Some, IfOk, OnOk, IfErr, ℤ, ◌≤◌, ◌++◌};
+ghost use Rattle.std.specs.Prelude.{◌≡◌, ℕ, pos, ◌+◌, ◌<◌, ◌<ℤ◌, ◌⊎◌, ◌∷◌, [], length, slice_get, Some, IfOk, OnOk, IfErr, IsTrue, ℤ, ◌≤◌, ◌++◌};
 ghost use Rattle.plane.specs.Matrices.{IsReducedTo, IsInLowestTerms};
 ghost use Rattle.tri_core.specs.Images.{IsImageBy, CarriesFrame};
 ghost use Rattle.canon_code.specs.Codes.{IsCode, AreStarts, IsStart};
 ghost use Rattle.canon_code.specs.Canonical.{canonical, frame, ThirdVectorsFit, IsMade, number_at};
-ghost use Rattle.canon_code.specs.Numbered.{IsNumberedBy};
+ghost use Rattle.canon_code.specs.Numbered.{entry, IsNumberedBy};
 ghost use Rattle.canon_code.specs.Orbits.{AreLinked, AreOrbits, IsBestOf};
 ghost use Rattle.canon_code.specs.Serials.{IsSerial};
 ghost use Rattle.canon_code.specs.Tries.{IsTried, tried_serial};
@@ -188,7 +188,24 @@ fn compared(
     }
 }
 
-/// The better of the best and start h: where an earlier start is of its orbit, it is a start of the best exactly where that one is.
+/// Whether start h is passed over: an earlier start is of its orbit, and isn't a start of the best.
+fn is_passed(f: &Field, tri: &Tri, best: &Best, h: u32) -> bool
+    requires field { f.now ≡ tri.now.field }
+    requires half { h < length tri.now.halves }
+    requires best { IsBestOf f.now tri.now.halves h best.now }
+    ensures passed { IsTrue result → IsBestOf f.now tri.now.halves (h + 1) best.now }
+    ensures other { ¬ (IsTrue result) → (entry best.now.orbits.links.items h ≡ h) ⊎ IsSerial f.now tri.now.halves h best.now.serial.items }
+{
+    let _number = f.number();
+    let _count = tri.triangles();
+    let first = best.orbits.links[h as usize];
+    if first == h {
+        return false;
+    }
+    best.starts.as_slice().binary_search(&first).is_err()
+}
+
+/// The better of the best and start h, which isn't passed over: where an earlier start is of its orbit, both are starts of the best.
 fn next(
     alloc: Global,
     f: &Field,
@@ -202,23 +219,18 @@ fn next(
     requires kept { AreKeptFrames f.now tri.now.halves kept.old }
     requires half { h < length tri.now.halves }
     requires best { IsBestOf f.now tri.now.halves h best }
+    requires other { (entry best.orbits.links.items h ≡ h) ⊎ IsSerial f.now tri.now.halves h best.serial.items }
     ensures best { IfOk result (λ r. IsBestOf f.now tri.now.halves (h + 1) r.1) }
     ensures kept { OnOk result (AreKeptFrames f.now tri.now.halves kept.new) }
     ensures wide { IfErr result (λ fault. fault ≡ Wide → ¬ (FrameFits f.now tri.now.halves h)) }
 {
     let _number = f.number();
     let _count = tri.triangles();
-    let first = best.orbits.links[h as usize];
-    if first == h {
+    if best.orbits.links[h as usize] == h {
         return compared(alloc, f, tri, kept, h, old, best);
     }
-    match best.starts.as_slice().binary_search(&first) {
-        Ok(_place) => {
-            let best = with_start(best, h)?;
-            Ok((old, best))
-        }
-        Err(_place) => Ok((old, best)),
-    }
+    let best = with_start(best, h)?;
+    Ok((old, best))
 }
 
 /// The least serial over all starts, with its starts. The lists of the best start and of the one that is tried are kept.
@@ -247,6 +259,9 @@ pub fn best_of(alloc: Global, f: &Field, tri: &Tri) -> Result<Best, CanonFault>
     let mut best = only(f, tri, &tried, 0, none)?;
     let mut kept = KeptFrames::none(alloc, distinct);
     for h in 1..count {
+        if is_passed(f, tri, &best, h) {
+            continue;
+        }
         (tried, best) = match next(alloc, f, tri, &mut kept, h, tried, best) {
             Ok(both) => both,
             Err(fault) => return Err(fault),

@@ -122,6 +122,18 @@ pub fn first_with(tri: &Tri, distinct: &Distinct, k: u32) -> u32
     }
 }
 
+/// Whether two half-edges have one place among the different vectors, where these are few.
+#[inline]
+pub fn have_one_place(distinct: &Distinct, h: u32, g: u32) -> bool
+    requires first { h < length distinct.now.places.items }
+    requires second { g < length distinct.now.places.items }
+    ensures same { IsTrue result → entry distinct.now.places.items h ≡ entry distinct.now.places.items g }
+    ensures inside { IsTrue result → entry distinct.now.places.items h < length distinct.now.firsts.items }
+{
+    let place = distinct.places[h as usize];
+    place == distinct.places[g as usize] && (place as usize) < distinct.firsts.len()
+}
+
 /// The numbers of half-edge k, where those of its vector are listed.
 #[inline]
 pub fn listed_pair(places: &[u32], list: &[Quad], k: u32) -> Option<(Quad, Quad)>

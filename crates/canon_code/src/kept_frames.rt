@@ -8,7 +8,7 @@ ghost use Rattle.canon_code.specs.Small.{IsSmallFrame};
 ghost use Rattle.canon_code.specs.WholeFrames.{IsScaledBy};
 ghost use Rattle.canon_code.specs.KeptFrames.{HaveOneFrame, AreKeptFrames};
 
-use super::distinct::{Distinct, same_vector};
+use super::distinct::{Distinct, have_one_place};
 use super::whole::Scaled;
 use quad_field::Quad;
 use std::alloc::{AllocError, Global};
@@ -29,15 +29,16 @@ pub struct KeptFrames {
     pub frames: Vec<KeptFrame>,
 }
 
-/// Whether half-edge h and the next have the vectors of half-edge g and the next.
-fn have_one_frame(tri: &Tri, h: u32, g: u32) -> bool
+/// Whether half-edge h and the next have the vectors of half-edge g and the next, by their places among the different vectors.
+fn have_one_frame(tri: &Tri, distinct: &Distinct, h: u32, g: u32) -> bool
+    requires distinct { AreDistinct tri.now.halves distinct.now.firsts.items distinct.now.places.items }
     requires first { h < length tri.now.halves }
     requires second { g < length tri.now.halves }
     ensures { IsTrue result → HaveOneFrame tri.now.halves h g }
 {
     let _count = tri.triangles();
-    if same_vector(tri, h, g) {
-        return same_vector(tri, Tri::next(h), Tri::next(g));
+    if have_one_place(distinct, h, g) {
+        return have_one_place(distinct, Tri::next(h), Tri::next(g));
     }
     false
 }
@@ -74,7 +75,7 @@ impl KeptFrames {
         ensures same { IfSome result (λ i. HoldsAt (λ kept. HaveOneFrame tri.now.halves kept.start.h h) self.now.frames.items i) }
     {
         for i in 0..self.frames.len() {
-            if have_one_frame(tri, self.frames[i].start.h, h) {
+            if have_one_frame(tri, &self.distinct, self.frames[i].start.h, h) {
                 return Some(i);
             }
         }
