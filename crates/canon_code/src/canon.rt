@@ -1,6 +1,6 @@
 //! The code of a triangulation, with its starts.
 
-ghost use Rattle.std.specs.Prelude.{◌≡◌, ℕ, pos, ◌+◌, ◌<◌, ◌<ℤ◌, ◌⊎◌, ◌∷◌, [], length, slice_get, Some, IfOk, OnOk, IfErr, IsTrue, ℤ, ◌≤◌, ◌++◌};
+ghost use Rattle.std.specs.Prelude.{◌≡◌, ℕ, pos, ◌+◌, ◌<◌, ◌<ℤ◌, ◌⊎◌, ◌∷◌, [], length, slice_get, Some, IfOk, OnOk, IfErr, IsTrue, IsFalse, ℤ, ◌≤◌, ◌++◌};
 ghost use Rattle.plane.specs.Matrices.{IsReducedTo, IsInLowestTerms};
 ghost use Rattle.tri_core.specs.Images.{IsImageBy, CarriesFrame};
 ghost use Rattle.canon_code.specs.Codes.{IsCode, AreStarts, IsStart};
@@ -194,7 +194,7 @@ fn is_passed(f: &Field, tri: &Tri, best: &Best, h: u32) -> bool
     requires half { h < length tri.now.halves }
     requires best { IsBestOf f.now tri.now.halves h best.now }
     ensures passed { IsTrue result → IsBestOf f.now tri.now.halves (h + 1) best.now }
-    ensures other { ¬ (IsTrue result) → (entry best.now.orbits.links.items h ≡ h) ⊎ IsSerial f.now tri.now.halves h best.now.serial.items }
+    ensures other { IsFalse result → (entry best.now.orbits.links.items h ≡ h) ⊎ IsSerial f.now tri.now.halves h best.now.serial.items }
 {
     let _number = f.number();
     let _count = tri.triangles();
@@ -202,7 +202,10 @@ fn is_passed(f: &Field, tri: &Tri, best: &Best, h: u32) -> bool
     if first == h {
         return false;
     }
-    best.starts.as_slice().binary_search(&first).is_err()
+    match best.starts.as_slice().binary_search(&first) {
+        Ok(_place) => false,
+        Err(_place) => true,
+    }
 }
 
 /// The better of the best and start h, which isn't passed over: where an earlier start is of its orbit, both are starts of the best.

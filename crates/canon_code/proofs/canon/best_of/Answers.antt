@@ -59,3 +59,6 @@ returns-clause-starts c =
     let all : c.loop-h.h ≡ length halves = omega (arith, valid.count.1) in
     starts_are d field halves valid c.loop-h.best.serial.items c.loop-h.best.starts.items
     (subst (λ n. IsLeastTo d halves n c.loop-h.best.serial.items c.loop-h.best.starts.items) all c.loop-h.invariant.best.least.best)
+
+pub next-requires-clause-other : goal.next-requires-clause-other
+next-requires-clause-other c = c.is_passed.ensures.other c.if-is_passed.false
