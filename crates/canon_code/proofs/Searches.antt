@@ -84,7 +84,7 @@ module _ (halves : List Half) (h : ℕ) (place number : ℕ → ℕ) (size looke
         new (subst (λ x. number x < size) (three_times m) two)
 
     -- a half-edge with a number keeps it
-    number_stays : (x : ℕ) → number x < size → number' x ≡ number x
+    pub number_stays : (x : ℕ) → number x < size → number' x ≡ number x
     number_stays x own =
         a.number_kept x (λ e. new (subst (λ y. number y < size) e own)) (λ e. new_next (subst (λ y. number y < size) e own)) (λ e. new_last (subst (λ y. number y < size) e own))
 

@@ -7,7 +7,7 @@ ghost use Rattle.canon_code.specs.declared.whole.Scaled.{Scaled};
 ghost use Rattle.canon_code.specs.Canonical.{number_at, vector_from};
 ghost use Rattle.canon_code.specs.Coordinates.{pair_at};
 ghost use Rattle.canon_code.specs.Numbered.{entry, IsListSearch};
-ghost use Rattle.canon_code.specs.Listed.{twin_by};
+ghost use Rattle.canon_code.specs.Listed.{twin_by, AreTwins};
 ghost use Rattle.canon_code.specs.WholeFrames.{IsWholeRow};
 ghost use Rattle.canon_code.specs.Distinct.{AreListed};
 
@@ -49,17 +49,6 @@ fn same_pair(places: &[u32], list: &[Quad], k: u32, row: &[i128], at: usize) -> 
     }
 }
 
-/// Whether the twin of the half-edge of new number k has this new number.
-#[inline]
-fn same_twin(tri: &Tri, numbering: &Numbering, k: u32, number: i128) -> bool
-    requires valid { IsTriangulation tri.now.field tri.now.halves }
-    requires numbering { (looked : ℕ) × IsListSearch tri.now.halves numbering.now.places.items numbering.now.numbers.items looked }
-    requires half { k < length numbering.now.places.items }
-    ensures { IsTrue result → number ≡ pos (twin_by tri.now.halves numbering.now.places.items numbering.now.numbers.items k) }
-{
-    number == twin_at(tri, numbering, k)
-}
-
 /// Whether the numbers of two half-edges are listed and are the first eight of the row.
 fn same_vectors(places: &[u32], list: &[Quad], first: u32, second: u32, row: &[i128]) -> bool
     requires one { first < length places.now }
@@ -76,20 +65,16 @@ fn same_vectors(places: &[u32], list: &[Quad], first: u32, second: u32, row: &[i
     false
 }
 
-/// Whether the twins of triangle t, of the new numbers, have the last three numbers of the row.
-fn same_twins(tri: &Tri, numbering: &Numbering, row: &[i128], t: u32) -> bool
-    requires valid { IsTriangulation tri.now.field tri.now.halves }
-    requires numbering { (looked : ℕ) × IsListSearch tri.now.halves numbering.now.places.items numbering.now.numbers.items looked }
-    requires triangle { 3 * t + 2 < length tri.now.halves }
-    requires reached { 3 * t + 2 < length numbering.now.places.items }
+/// Whether these are the last three numbers of the row.
+fn same_twins(twins: [u32; 3], row: &[i128]) -> bool
     requires long { length row.now ≡ 11 }
-    ensures first { IsTrue result → number_at row.now 8 ≡ pos (twin_by tri.now.halves numbering.now.places.items numbering.now.numbers.items (3 * t)) }
-    ensures second { IsTrue result → number_at row.now 9 ≡ pos (twin_by tri.now.halves numbering.now.places.items numbering.now.numbers.items (3 * t + 1)) }
-    ensures third { IsTrue result → number_at row.now 10 ≡ pos (twin_by tri.now.halves numbering.now.places.items numbering.now.numbers.items (3 * t + 2)) }
+    ensures first { IsTrue result → number_at row.now 8 ≡ pos (entry twins 0) }
+    ensures second { IsTrue result → number_at row.now 9 ≡ pos (entry twins 1) }
+    ensures third { IsTrue result → number_at row.now 10 ≡ pos (entry twins 2) }
 {
-    if same_twin(tri, numbering, 3 * t, row[8]) {
-        if same_twin(tri, numbering, 3 * t + 1, row[9]) {
-            return same_twin(tri, numbering, 3 * t + 2, row[10]);
+    if row[8] == i128::from(twins[0]) {
+        if row[9] == i128::from(twins[1]) {
+            return row[10] == i128::from(twins[2]);
         }
     }
     false
@@ -101,6 +86,7 @@ pub fn same_row(
     places: &[u32],
     list: &[Quad],
     numbering: &Numbering,
+    twins: [u32; 3],
     row: &[i128],
     t: u32,
 ) -> bool
@@ -109,6 +95,7 @@ pub fn same_row(
     requires numbering { (looked : ℕ) × IsListSearch tri.now.halves numbering.now.places.items numbering.now.numbers.items looked }
     requires triangle { 3 * t + 2 < length tri.now.halves }
     requires reached { 3 * t + 2 < length numbering.now.places.items }
+    requires twins { AreTwins tri.now.halves numbering.now.places.items numbering.now.numbers.items t twins }
     requires long { length row.now ≡ 11 }
     ensures { IsTrue result → (d : ℕ) (start : Scaled) → AreListed d tri.now.halves start places.now list.now
         → IsWholeRow d tri.now.halves start (entry numbering.now.places.items) (entry numbering.now.numbers.items) t row.now }
@@ -116,7 +103,7 @@ pub fn same_row(
     let first = numbering.places[3 * t as usize];
     let second = numbering.places[3 * t as usize + 1];
     if same_vectors(places, list, first, second, row) {
-        return same_twins(tri, numbering, row, t);
+        return same_twins(twins, row);
     }
     false
 }

@@ -359,9 +359,9 @@ fn compared(
     let _number = f.number();
     let count = tri.triangles();
     for t in 0..count {
-        look_around(tri, numbering, t)?;
+        let twins = look_around(tri, numbering, t)?;
         let own = row_in(best, t);
-        if same_row(tri, places, list, numbering, own, t) {
+        if same_row(tri, places, list, numbering, twins, own, t) {
             continue;
         }
         match whole_row(f, tri, start, places, list, numbering, t) {

@@ -13,8 +13,8 @@ returns c =
     let is : fresh ≡ replicate (length halves) 768 = made ∙ ap (λ n. replicate n 768) c.triangles.ensures.count in
     let first = search_first c.args.tri.now.field halves c.args.h fresh c.triangles.ensures.valid c.requires is in
     let numbers : c.append.new.numbers ≡ numbered_three fresh c.args.h 0 =
-    c.in_ok-append.ensures.numbers ∙ ap₂ (λ l (p : List ℕ). numbered_three l c.args.h (length p)) c.deref_mut.ensures.value c.clear.ensures.items in
-    let places : c.append.new.places.items ≡ with_three [] c.args.h = c.in_ok-append.ensures.places ∙ ap (λ p. with_three p c.args.h) c.clear.ensures.items in
+    c.in_ok-_first.ensures.numbers ∙ ap₂ (λ l (p : List ℕ). numbered_three l c.args.h (length p)) c.deref_mut.ensures.value c.clear.ensures.items in
+    let places : c.append.new.places.items ≡ with_three [] c.args.h = c.in_ok-_first.ensures.places ∙ ap (λ p. with_three p c.args.h) c.clear.ensures.items in
     let long : length c.append.new.numbers ≡ c.in_ok-numbers.numbers.len =
     ap length numbers ∙ length-three fresh c.args.h 0 ∙ ap length (sym c.deref_mut.ensures.value) ∙ c.deref_mut.ensures.len in
     let three = ap length places in

@@ -1,5 +1,5 @@
-use Rattle.std.proofs.Common.{◌≡◌, ◌+◌, ◌*◌, ◌<◌, ℕ, List, length, subst, arith}
-use Rattle.std.specs.Prelude.{ℤ}
+use Rattle.std.proofs.Common.{◌≡◌, ◌+◌, ◌*◌, ◌<◌, ◌∙◌, ℕ, List, length, ap, subst, arith}
+use Rattle.std.specs.Prelude.{ℤ, pos}
 use Rattle.std.proofs.lemmas.List.{get_or_read}
 use Rattle.quad_field.specs.declared.quad.Quad.{Quad}
 use Rattle.canon_code.specs.Canonical.{vector_from}
@@ -24,4 +24,5 @@ returns-then-same_vectors c = λ own d start are.
     (subst (λ k. pair_at list (entry shown k) ≡ vector_from r 0) one (c.same_vectors.ensures.same c.if-same_vectors.true))
     (subst (λ k. 2 * entry shown k + 1 < length list) two (c.same_vectors.ensures.listed_too c.if-same_vectors.true))
     (subst (λ k. pair_at list (entry shown k) ≡ vector_from r 4) two (c.same_vectors.ensures.same_too c.if-same_vectors.true))
-    (c.same_twins.ensures.first own) (c.same_twins.ensures.second own) (c.same_twins.ensures.third own)
+    (c.same_twins.ensures.first own ∙ ap (λ twins. pos (entry twins 0)) c.requires.twins) (c.same_twins.ensures.second own ∙ ap (λ twins. pos (entry twins 1)) c.requires.twins)
+    (c.same_twins.ensures.third own ∙ ap (λ twins. pos (entry twins 2)) c.requires.twins)

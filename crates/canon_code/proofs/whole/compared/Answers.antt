@@ -31,7 +31,7 @@ loop-t-preserved c =
     let t : ℕ = c.loop-t.t in
     let places : List ℕ = c.look_around.new.numbering.places.items in
     let numbers : List ℕ = c.look_around.new.numbering.numbers.items in
-    let search : IsUnderWay halves c.args.start.now.h places numbers (3 * (t + 1)) = c.in_ok-look_around.ensures.search c.args.start.now.h c.loop-t.invariant.search in
+    let search : IsUnderWay halves c.args.start.now.h places numbers (3 * (t + 1)) = c.in_ok-twins.ensures.search c.args.start.now.h c.loop-t.invariant.search in
     let found = subst (λ o. IfSome o (IsWholeRow d halves c.args.start.now (entry places) (entry numbers) t)) c.in-Ok-Some.field-0-is c.in-Ok-Some.ensures.whole in
     record {
       search = search;
@@ -49,7 +49,7 @@ loop-t-preserved-then-same_row c =
     let t : ℕ = c.loop-t.t in
     let places : List ℕ = c.look_around.new.numbering.places.items in
     let numbers : List ℕ = c.look_around.new.numbering.numbers.items in
-    let search : IsUnderWay halves c.args.start.now.h places numbers (3 * (t + 1)) = c.in_ok-look_around.ensures.search c.args.start.now.h c.loop-t.invariant.search in
+    let search : IsUnderWay halves c.args.start.now.h places numbers (3 * (t + 1)) = c.in_ok-twins.ensures.search c.args.start.now.h c.loop-t.invariant.search in
     let own : List ℤ = c.row_in-own.result.now in
     record {
       search = search;
@@ -67,7 +67,7 @@ returns-in-Greater-clause-told c =
     let t : ℕ = c.loop-t.t in
     let places : List ℕ = c.look_around.new.numbering.places.items in
     let numbers : List ℕ = c.look_around.new.numbering.numbers.items in
-    let search : IsUnderWay halves c.args.start.now.h places numbers (3 * (t + 1)) = c.in_ok-look_around.ensures.search c.args.start.now.h c.loop-t.invariant.search in
+    let search : IsUnderWay halves c.args.start.now.h places numbers (3 * (t + 1)) = c.in_ok-twins.ensures.search c.args.start.now.h c.loop-t.invariant.search in
     let found = subst (λ o. IfSome o (IsWholeRow d halves c.args.start.now (entry places) (entry numbers) t)) c.in-Ok-Some.field-0-is c.in-Ok-Some.ensures.whole in
     after_greater d c.number-number.ensures.valid halves valid best c.args.start.now c.requires.start c.requires.long c.requires.first
     t (omega arith) c.loop-t.invariant.begins places numbers search c.in-Ok-Some.row found
@@ -105,21 +105,21 @@ same_row-requires-clause-long c =
     ap length c.row_in-own.ensures ∙ eleven (length halves / 3) c.loop-t.t c.args.best.now c.requires.long (omega arith)
 
 pub same_row-requires-clause-numbering : goal.same_row-requires-clause-numbering
-same_row-requires-clause-numbering c = (3 * (c.loop-t.t + 1), (c.in_ok-look_around.ensures.search c.args.start.now.h c.loop-t.invariant.search).search)
+same_row-requires-clause-numbering c = (3 * (c.loop-t.t + 1), (c.in_ok-twins.ensures.search c.args.start.now.h c.loop-t.invariant.search).search)
 
 pub same_row-requires-clause-reached : goal.same_row-requires-clause-reached
 same_row-requires-clause-reached c =
     let t : ℕ = c.loop-t.t in
-    let enough : 3 * (t + 1) ≤ length c.look_around.new.numbering.places.items = (c.in_ok-look_around.ensures.search c.args.start.now.h c.loop-t.invariant.search).search.search.enough in
+    let enough : 3 * (t + 1) ≤ length c.look_around.new.numbering.places.items = (c.in_ok-twins.ensures.search c.args.start.now.h c.loop-t.invariant.search).search.search.enough in
     omega (arith, enough)
 
 pub whole_row-requires-clause-numbering : goal.whole_row-requires-clause-numbering
-whole_row-requires-clause-numbering c = (3 * (c.loop-t.t + 1), (c.in_ok-look_around.ensures.search c.args.start.now.h c.loop-t.invariant.search).search)
+whole_row-requires-clause-numbering c = (3 * (c.loop-t.t + 1), (c.in_ok-twins.ensures.search c.args.start.now.h c.loop-t.invariant.search).search)
 
 pub whole_row-requires-clause-reached : goal.whole_row-requires-clause-reached
 whole_row-requires-clause-reached c =
     let t : ℕ = c.loop-t.t in
-    let enough : 3 * (t + 1) ≤ length c.look_around.new.numbering.places.items = (c.in_ok-look_around.ensures.search c.args.start.now.h c.loop-t.invariant.search).search.search.enough in
+    let enough : 3 * (t + 1) ≤ length c.look_around.new.numbering.places.items = (c.in_ok-twins.ensures.search c.args.start.now.h c.loop-t.invariant.search).search.search.enough in
     omega (arith, enough)
 
 pub returns-clause-numbered : goal.returns-clause-numbered
