@@ -4,6 +4,7 @@ pub mod Starts
 pub mod Stretches
 pub mod Lists
 pub mod HingeLists
+pub mod DifferentForms
 pub mod Lines
 pub mod WallLists
 pub mod Owns

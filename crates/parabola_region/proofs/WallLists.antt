@@ -18,6 +18,7 @@ use Rattle.parabola_region.specs.HingeLists.{form_at, edge_at, IsHingeList, IsPo
 use Rattle.parabola_region.specs.Stretches.{HasPointFor}
 use Rattle.parabola_region.specs.WallLists.{PlainWall, plain_wall, plain_walls, no_wall, wall_at, least_edge, IsCovered, IsWallList}
 use Rattle.parabola_region.specs.Found.{AreWalls, IsOwnBelow, IsFound}
+use Rattle.parabola_region.specs.Different.{HasFormBefore}
 use Rattle.parabola_region.proofs.Lists.{length_more, each_more, ascends_more}
 use Rattle.parabola_region.proofs.Lines.{itself, swapped, through, line_of_multiple, own_somewhere, full_own, own_full, line_from_point, point_from_line, own_edges}
 
@@ -62,6 +63,16 @@ module _ (d : ℕ) (field : IsFieldNumber d) (halves : List Half) (valid : IsTri
 
     pub adds_no_line : ¬ (HasPointFor d l forms) → AreWalls d halves forms (n + 1) walls
     adds_no_line none = adds_none (λ line. absurd (none (point_from_line d field halves valid forms list l line)))
+
+    -- a wall line with the form of an earlier hinge is covered with it
+    pub covered_before : HasFormBefore forms n → IsWallLine d halves l → IsCovered walls (edge_at forms n)
+    covered_before b line =
+        let c = are.covered b.0 b.1 (subst (IsWallLine d halves) (sym b.2) line) in
+        let w = are.each c.0 c.1 in
+        let f : Triple = (wall_at walls c.0).0 in
+        let e = (w.all.exactly (edge_at forms b.0)).0 c.2 in
+        let own : IsMultiple d f (form_at forms b.0) = own_full d field halves valid forms list f b.0 (omega (arith, b.1)) e.1 in
+        (c.0, c.1, (w.all.exactly (edge_at forms n)).1 ((list.each n under).edge, full_own d field halves valid forms list f n under (subst (IsMultiple d f) b.2 own)))
 
     -- one that adds a wall
     module _ (point : HasPointFor d l forms) (new : ¬ (IsCovered walls (edge_at forms n))) (edges : List ℕ) (owns : IsListing (IsOwnBelow d l forms (length forms)) edges) where

@@ -3,6 +3,7 @@ pub mod Instances
 pub mod WallLists
 pub mod Corners
 pub mod HingeLists
+pub mod Different
 pub mod Stretches
 pub mod Found
 pub mod Spots

@@ -5,6 +5,7 @@
 mod chord;
 mod corner;
 mod corner_list;
+mod different;
 mod fault;
 mod hinge_list;
 pub mod laws;

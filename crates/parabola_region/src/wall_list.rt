@@ -9,11 +9,13 @@ ghost use Rattle.hinge_form.specs.Walls.{IsListing};
 ghost use Rattle.parabola_region.specs.Instances.{IsRegionFault};
 ghost use Rattle.parabola_region.specs.WallLists.{plain_walls, IsCovered, IsWallList};
 ghost use Rattle.parabola_region.specs.HingeLists.{form_at, HasForms, IsAscendingList, IsHingeList};
+ghost use Rattle.parabola_region.specs.Different.{AreDifferent, AreOwns};
 ghost use Rattle.parabola_region.specs.Stretches.{IsStart, IsWideFor};
-ghost use Rattle.parabola_region.specs.Found.{IsOwnBelow, IsFound, IsListFault};
+ghost use Rattle.parabola_region.specs.Found.{AreWalls, IsOwnBelow, IsFound, IsListFault};
 
 use super::RegionFault;
 use super::chord::chord_point;
+use super::different::{Different, different_of, stood_before};
 use super::hinge_list::{Hinge, hinges_of, is_valid};
 use super::meeting::{is_field, is_zero_at};
 use super::stretch::has_point;
@@ -64,56 +66,87 @@ fn is_own(f: &Field, line: &Form, start: &Place3, forms: &[Hinge], i: usize) -> 
     }
 }
 
-/// The edges of a line's own forms, ascending.
+/// For each form of a list, whether it is a line's own.
+fn owns_of(
+    alloc: Global,
+    f: &Field,
+    line: &Form,
+    start: &Place3,
+    forms: &[Hinge],
+) -> Result<Vec<bool>, RegionFault>
+    requires line { ¬ (of_form line.now ≡ zeros) }
+    requires forms { HasForms forms.now }
+    requires start { IsStart f.now (of_form line.now) (of_place start.now) }
+    ensures owns { IfOk result (λ owns. AreOwns f.now (of_form line.now) forms.now (length forms.now) owns.items) }
+    ensures fault { IfErr result (IsListFault f.now (of_form line.now) forms.now) }
+{
+    let mut owns = Vec::new(alloc);
+    for i in 0..forms.len() {
+        let own = is_own(f, line, start, forms, i)?;
+        owns.push(own)?;
+    }
+    Ok(owns)
+}
+
+/// The edges of a line's own forms, ascending: each different form is looked at once.
 fn own_edges(
     alloc: Global,
     f: &Field,
     line: &Form,
     start: &Place3,
     forms: &[Hinge],
+    different: &Different,
 ) -> Result<Vec<u32>, RegionFault>
     requires line { ¬ (of_form line.now ≡ zeros) }
-    requires forms { HasForms forms.now }
+    requires different { AreDifferent forms.now different.now.firsts.items different.now.places.items (length forms.now) }
+    requires forms { HasForms different.now.firsts.items }
     requires start { IsStart f.now (of_form line.now) (of_place start.now) }
     requires ascending { IsAscendingList forms.now }
     ensures listing { IfOk result (λ edges. IsListing (IsOwnBelow f.now (of_form line.now) forms.now (length forms.now)) edges.items) }
-    ensures fault { IfErr result (IsListFault f.now (of_form line.now) forms.now) }
+    ensures fault { IfErr result (IsListFault f.now (of_form line.now) different.now.firsts.items) }
 {
+    let owns = owns_of(alloc, f, line, start, different.firsts.as_slice())?;
     let mut edges = Vec::new(alloc);
     for i in 0..forms.len() {
-        if is_own(f, line, start, forms, i)? {
+        if owns[different.places[i]] {
             edges.push(forms[i].edge)?;
         }
     }
     Ok(edges)
 }
 
-/// The wall of hinge i, where there is one that isn't listed.
+/// The wall of hinge i, where there is one that isn't listed. None is looked for where a hinge before it has its form.
 fn wall_of(
     alloc: Global,
     f: &Field,
     tri: &Tri,
     forms: &[Hinge],
+    different: &Different,
     i: usize,
     walls: &[Wall],
 ) -> Result<Option<Wall>, RegionFault>
     requires valid { IsTriangulation f.now tri.now.halves }
     requires list { IsHingeList f.now tri.now.halves (length tri.now.halves) forms.now }
+    requires different { AreDifferent forms.now different.now.firsts.items different.now.places.items (length forms.now) }
     requires inside { i < length forms.now }
+    requires before { AreWalls f.now tri.now.halves forms.now i (plain_walls walls.now) }
     ensures found { IfOk result (IsFound f.now tri.now.halves forms.now i (plain_walls walls.now)) }
     ensures fault { IfErr result (IsRegionFault f.now tri.now.halves) }
 {
     is_field(f);
-    let line = forms[i].form;
+    if stood_before(different, forms, i) {
+        return Ok(None);
+    }
     if is_covered(walls, forms[i].edge) {
         return Ok(None);
     }
+    let line = forms[i].form;
     let start = match chord_point(f, &line) {
         Ok(start) => start,
         Err(wide) => return Err(RegionFault::Wide(wide.formula)),
     };
-    match has_point(f, &line, &start, forms) {
-        Ok(true) => match own_edges(alloc, f, &line, &start, forms) {
+    match has_point(f, &line, &start, different.firsts.as_slice()) {
+        Ok(true) => match own_edges(alloc, f, &line, &start, forms, different) {
             Ok(edges) => Ok(Some(Wall { form: line, edges })),
             Err(fault) => Err(fault),
         },
@@ -128,16 +161,18 @@ fn walls_among(
     f: &Field,
     tri: &Tri,
     forms: &[Hinge],
+    different: &Different,
 ) -> Result<Vec<Wall>, RegionFault>
     requires valid { IsTriangulation f.now tri.now.halves }
     requires list { IsHingeList f.now tri.now.halves (length tri.now.halves) forms.now }
+    requires different { AreDifferent forms.now different.now.firsts.items different.now.places.items (length forms.now) }
     ensures walls { IfOk result (λ walls. IsWallList f.now tri.now.halves (plain_walls walls.items)) }
     ensures fault { IfErr result (IsRegionFault f.now tri.now.halves) }
 {
     is_field(f);
     let mut walls = Vec::new(alloc);
     for i in 0..forms.len() {
-        if let Some(wall) = wall_of(alloc, f, tri, forms, i, walls.as_slice())? {
+        if let Some(wall) = wall_of(alloc, f, tri, forms, different, i, walls.as_slice())? {
             walls.push(wall)?;
         }
     }
@@ -154,5 +189,6 @@ pub fn walls(alloc: Global, f: &Field, tri: &Tri) -> Result<Vec<Wall>, RegionFau
 {
     is_valid(f, tri);
     let forms = hinges_of(alloc, f, tri)?;
-    walls_among(alloc, f, tri, forms.as_slice())
+    let different = different_of(alloc, forms.as_slice())?;
+    walls_among(alloc, f, tri, forms.as_slice(), &different)
 }
