@@ -1,5 +1,5 @@
 -- Frames that are kept.
-use Rattle.std.proofs.Common.{◌≡◌, ℕ, ◌<◌, List, length, refl, sym, ap, ◌∙◌, subst}
+use Rattle.std.proofs.Common.{◌≡◌, ℕ, ◌*◌, ◌<◌, List, length, refl, sym, ap, ◌∙◌, subst}
 use mathlib.Core.Path.{subst₂}
 use Rattle.std.specs.Prelude.{ℤ, pos, ◌<ℤ◌, ◌*ℤ◌, unsigned_abs, IfSome, get_or}
 use Rattle.std.proofs.lemmas.List.Elements.{All-get_or}
@@ -78,7 +78,8 @@ module _ (d : ℕ) (field : IsFieldNumber d) (halves : List Half) (valid : IsTri
       listed_from d halves later kept.distinct.firsts.items kept.distinct.places.items frame.list.items all.distinct
       (moved_pairs d halves frame.start later kept.distinct.firsts.items frame.list.items refl refl own.pairs)
 
-  pub kept_coordinates : (taken : List Quad) → AreTaken kept.distinct.places.items frame.list.items taken (length halves) → AreCoordinates d halves h (unsigned_abs kept.scale) taken
-  kept_coordinates taken is =
-      whole_coordinates d field halves valid kept.scale later scaled taken is.as_many
+  pub kept_coordinates : (taken : List Quad) → length taken ≡ 2 * length halves → AreTaken kept.distinct.places.items frame.list.items taken (length halves)
+      → AreCoordinates d halves h (unsigned_abs kept.scale) taken
+  kept_coordinates taken long is =
+      whole_coordinates d field halves valid kept.scale later scaled taken long
       (λ k less. subst (IsWhole d frame.start.frame frame.start.divisor (vector_at halves k)) (sym (is.same k less)) (listed.whole k less (is.inside k less)))

@@ -32,9 +32,8 @@ pub record ArePairs (d : ℕ) (halves : List Half) (start : Scaled) (firsts : Li
   pub few : length list ≤ 2 * length firsts
   pub whole : (i : ℕ) → 2 * i + 1 < length list → IsWhole d start.frame start.divisor (vector_at halves (entry firsts i)) (pair_at list i)
 
--- the two numbers that are listed for each of the first k half-edges
+-- a list that begins with the two numbers that are listed for each of the first k half-edges
 pub record AreTaken (places : List ℕ) (list taken : List Quad) (k : ℕ) : Type 0 where
-  pub as_many : length taken ≡ 2 * k
   pub inside : (j : ℕ) → j < k → 2 * entry places j + 1 < length list
   pub same : (j : ℕ) → j < k → pair_at taken j ≡ pair_at list (entry places j)
 
