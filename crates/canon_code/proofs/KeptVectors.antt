@@ -1,6 +1,5 @@
 -- Half-edges whose vectors differ, and the numbers of these vectors.
 use Rattle.std.proofs.Common.{◌≡◌, ℕ, ◌+◌, ◌*◌, ◌<◌, List, [], ◌∷◌, ◌++◌, length, sym, ap, ◌∙◌, refl, subst, inl, inr, arith}
-use mathlib.Core.Path.{ap₂}
 use Rattle.std.proofs.lemmas.Bool.{cases_eq}
 use Rattle.std.proofs.lemmas.List.{get_or_append_left, get_or_push, length_push}
 use Rattle.quad_field.specs.declared.quad.Quad.{Quad}
@@ -15,10 +14,11 @@ use Rattle.tri_core.specs.declared.half.Half.{Half}
 use Rattle.tri_core.specs.HalfEdges.{vector_at}
 use Rattle.canon_code.specs.declared.whole.Scaled.{Scaled}
 use Rattle.canon_code.specs.Numbered.{entry}
-use Rattle.canon_code.specs.Coordinates.{no_quad, pair_at}
+use Rattle.canon_code.specs.Coordinates.{pair_at}
 use Rattle.canon_code.specs.WholeFrames.{IsWhole}
 use Rattle.canon_code.specs.Distinct.{AreKept, AreDistinct, ArePairs, AreListed}
 use Rattle.canon_code.proofs.Coordinated.{vec_read}
+use Rattle.canon_code.proofs.Numbers.{pairs_longer, pair_last, pair_before}
 
 pub kept_none : (halves : List Half) → AreKept halves [] [] 0
 kept_none halves = record {
@@ -106,22 +106,14 @@ module _ (d : ℕ) (halves : List Half) (start : Scaled) (firsts : List ℕ) whe
   pub pairs_more : (list : List Quad) (i : ℕ) (x y : Quad) → ArePairs d halves start firsts list → length list ≡ 2 * i → i < length firsts
       → IsWhole d start.frame start.divisor (vector_at halves (entry firsts i)) (x, y) → ArePairs d halves start firsts ((list ++ x ∷ []) ++ y ∷ [])
   pairs_more list i x y is long low whole = record {
-    few = omega (arith, length_push list x, length_push (list ++ x ∷ []) y, long, low);
+    few = omega (arith, pairs_longer list x y i long, low);
     whole = λ j less. elim (cases_eq j i) [
       | inl e ↦
           subst (λ n. IsWhole d start.frame start.divisor (vector_at halves (entry firsts n)) (pair_at ((list ++ x ∷ []) ++ y ∷ []) n)) (sym e)
-          (subst (IsWhole d start.frame start.divisor (vector_at halves (entry firsts i)))
-          (sym (ap₂ (λ (s t : Quad). let v : Vector Quad = (s, t) in v)
-          (get_or_append_left (list ++ x ∷ []) (y ∷ []) no_quad (2 * i) (omega (arith, length_push list x, long)) ∙ get_or_push list x no_quad (2 * i) long)
-          (get_or_push (list ++ x ∷ []) y no_quad (2 * i + 1) (omega (arith, length_push list x, long)))))
-          whole)
+          (subst (IsWhole d start.frame start.divisor (vector_at halves (entry firsts i))) (sym (pair_last list x y i long)) whole)
       | inr other ↦
-          let own : 2 * j + 1 < length list = omega (arith, less, other, length_push list x, length_push (list ++ x ∷ []) y, long) in
-          subst (IsWhole d start.frame start.divisor (vector_at halves (entry firsts j)))
-          (sym (ap₂ (λ (s t : Quad). let v : Vector Quad = (s, t) in v)
-          (get_or_append_left (list ++ x ∷ []) (y ∷ []) no_quad (2 * j) (omega (arith, length_push list x, own)) ∙ get_or_append_left list (x ∷ []) no_quad (2 * j) (omega (arith, own)))
-          (get_or_append_left (list ++ x ∷ []) (y ∷ []) no_quad (2 * j + 1) (omega (arith, length_push list x, own)) ∙ get_or_append_left list (x ∷ []) no_quad (2 * j + 1) own)))
-          (is.whole j own)
+          let own : j < i = omega (arith, less, other, pairs_longer list x y i long) in
+          subst (IsWhole d start.frame start.divisor (vector_at halves (entry firsts j))) (sym (pair_before list x y i long j own)) (is.whole j (omega (arith, own, long)))
     ];
   }
 

@@ -27,6 +27,7 @@ use Rattle.canon_code.specs.declared.coordinates.Frame.{Frame}
 use Rattle.canon_code.specs.declared.whole.Scaled.{Scaled}
 use Rattle.canon_code.specs.Serials.{row, rows, IsWritten, IsScale, IsSerial}
 use Rattle.canon_code.specs.Codes.{IsBefore}
+use Rattle.canon_code.specs.Coordinates.{pair_at, AreCoordinates}
 use Rattle.canon_code.specs.Canonical.{number_at}
 use Rattle.canon_code.specs.Numberings.{IsNumbering}
 use Rattle.canon_code.specs.Search.{IsSearch}
@@ -121,6 +122,19 @@ module _ (d : ℕ) (field : IsFieldNumber d) (halves : List Half) (valid : IsTri
   from_frame v w written =
       let there = subst₂ (λ (a b : Vector Quad). IsWritten O (O.int m) a b v w) (sym is.frame.e) (sym is.frame.g) written in
       (whole_is (det O v (vector start.frame.g)) w.0 there.0, whole_is (det O (vector start.frame.e) v) w.1 there.1)
+
+  -- where all are whole they are the coordinates over m
+  pub whole_coordinates : (list : List Quad) → length list ≡ 2 * length halves → ((k : ℕ) → k < length halves → IsWhole d start.frame start.divisor (vector_at halves k) (pair_at list k))
+      → AreCoordinates d halves start.h (unsigned_abs m) list
+  whole_coordinates list long whole = record {
+    as_many = long;
+    least = ((omega (arith, ints, is.some), λ k less. (pair_at list k, written k less)), is.least);
+    written = written;
+  }
+    where
+      written : (k : ℕ) → k < length halves → IsWritten O (O.int (pos (unsigned_abs m))) e₀ g₀ (vector_at halves k) (pair_at list k)
+      written k less =
+          subst (λ (n : ℤ). IsWritten O (O.int n) e₀ g₀ (vector_at halves k) (pair_at list k)) (sym (size_is m is.some)) (at_frame (vector_at halves k) (pair_at list k) (whole k less))
 
   module _ (place number : ℕ → ℕ) (num : IsNumbering halves start.h place number) where
     abbrev Written : ℕ → Type 0

@@ -32,6 +32,11 @@ pub record ArePairs (d : ℕ) (halves : List Half) (start : Scaled) (firsts : Li
   pub few : length list ≤ 2 * length firsts
   pub whole : (i : ℕ) → 2 * i + 1 < length list → IsWhole d start.frame start.divisor (vector_at halves (entry firsts i)) (pair_at list i)
 
+-- a list that begins with the two numbers that are listed for each of the first k half-edges
+pub record AreTaken (places : List ℕ) (list taken : List Quad) (k : ℕ) : Type 0 where
+  pub inside : (j : ℕ) → j < k → 2 * entry places j + 1 < length list
+  pub same : (j : ℕ) → j < k → pair_at taken j ≡ pair_at list (entry places j)
+
 -- each half-edge has a place: the two numbers there, if there are any, are those of its vector over the divisor
 pub record AreListed (d : ℕ) (halves : List Half) (start : Scaled) (places : List ℕ) (list : List Quad) : Type 0 where
   pub as_many : length places ≡ length halves

@@ -10,14 +10,14 @@ ghost use Rattle.canon_code.specs.Orbits.{AreLinked, AreOrbits, IsBestOf};
 ghost use Rattle.canon_code.specs.Serials.{IsSerial};
 ghost use Rattle.canon_code.specs.Tries.{IsTried, tried_serial};
 ghost use Rattle.canon_code.specs.FrameWidth.{FrameFits, HasWideFrame};
-ghost use Rattle.canon_code.specs.Distinct.{AreDistinct};
 ghost use Rattle.canon_code.specs.KeptFrames.{AreKeptFrames};
 ghost use Rattle.std.specs.declared.cmp.Ordering.TheVariants.{Less, Equal, Greater};
 ghost use Rattle.canon_code.specs.declared.fault.CanonFault.TheVariants.{Wide};
 
 use super::coordinates::Coordinates;
-use super::distinct::{Distinct, distinct_of};
+use super::distinct::distinct_of;
 use super::kept_frames::KeptFrames;
+use super::kept_tries::tried_kept;
 use super::numbering::Numbering;
 use super::orbits::Orbits;
 use super::serial::{Tried, order_of, scale_number, serial_of, tried_at};
@@ -137,19 +137,19 @@ fn with_image(
 fn tried_whole(
     f: &Field,
     tri: &Tri,
-    distinct: &Distinct,
+    kept: &KeptFrames,
     h: u32,
     old: Tried,
     best: Best,
 ) -> Result<(Tried, Best), CanonFault>
     requires field { f.now ≡ tri.now.field }
-    requires distinct { AreDistinct tri.now.halves distinct.now.firsts.items distinct.now.places.items }
+    requires kept { AreKeptFrames f.now tri.now.halves kept.now }
     requires half { h < length tri.now.halves }
     requires best { IsBestOf f.now tri.now.halves h best }
     ensures best { IfOk result (λ r. IsBestOf f.now tri.now.halves (h + 1) r.1) }
     ensures wide { IfErr result (λ fault. fault ≡ Wide → ¬ (FrameFits f.now tri.now.halves h)) }
 {
-    let tried = match tried_at(f, tri, distinct, h, old) {
+    let tried = match tried_kept(f, tri, kept, h, old) {
         Ok(tried) => tried,
         Err(fault) => return Err(fault),
     };
@@ -184,7 +184,7 @@ fn compared(
             let best = with_image(f, tri, &tried.numbering, h, best)?;
             Ok((tried, best))
         }
-        Told::Open => tried_whole(f, tri, &kept.distinct, h, tried, best),
+        Told::Open => tried_whole(f, tri, kept, h, tried, best),
     }
 }
 

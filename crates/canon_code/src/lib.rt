@@ -8,6 +8,7 @@ mod coordinates;
 mod distinct;
 mod fault;
 mod kept_frames;
+mod kept_tries;
 pub mod laws;
 mod number_list;
 mod numbering;
