@@ -195,7 +195,7 @@ fn pairs_of(
     requires inside { AreInside tri.now.halves firsts.now }
     ensures { IfOk result (λ list. ArePairs f.now tri.now.halves start.now firsts.now list.items) }
 {
-    let mut list = Vec::new(alloc);
+    let mut list = Vec::with_capacity(alloc, 2 * firsts.len())?;
     for i in 0..firsts.len() {
         let first = firsts[i];
         match pair_over(f, start, &tri.half(first).vec) {
